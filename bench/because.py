@@ -3,15 +3,15 @@
 
 That is the position of an earlier event, or none, and at most two numbers. It is a second opinion, and no part of the program: it was
 written from the words of the statements, which are the sentences of the functions here too. Like occasions.py it looks back over the
-whole log for each fault, and keeps no state from one position to the next. Whether there is a fault is reference.py's, and with --all,
-of the further statements that the program judges on request, further.py's.
+whole log for each fault, and keeps no state from one position to the next. Whether there is a fault is reference.py's, and with --all
+or --times, of the further statements that the program judges by that, further.py's.
 
 For each log it prints its report, as `mqjudge check` does, and under each fault a line `because POSITION CODE event POSITION numbers N N`:
 `event -` where no event is to blame, and no numbers where there are none. With --words it says after that, in parentheses, what the event
 is, or what never came, in the words that the program has for it (mq_report/specs/Because.antt). With --self-test it checks worked logs
 (worked_because.py), those of the suite, and laws on these and many others.
 
-usage: bench/because.py [--words] [--all] LOG..
+usage: bench/because.py [--words] [--all | --times] LOG..
        bench/because.py --self-test [--made 150]
 """
 import argparse
@@ -22,9 +22,9 @@ from pathlib import Path
 
 sys.dont_write_bytecode = True  # the repository stays as it is
 import on_request
-import reference
 from further_manners import waits_for_auth
-from further_table import JUDGED
+from further_table import ALL, ALWAYS, JUDGED, TIMES
+from further_times import late_by_client, late_by_server, last_of_client, silence
 from reading import (
     CONNACK, CONNECT, DISCONNECT, NAMES, PINGREQ, PINGRESP, PUBREC, PUBREL, Recording, SUBACK, SUBSCRIBE, UNSUBACK, UNSUBSCRIBE,
 )
@@ -522,6 +522,20 @@ def names_another_method(log: Log, k: int) -> Evidence:
     return Evidence("the CONNECT, whose Authentication Method it must have", connect_of(log, k))
 
 
+# -- K, on times: what the client sent last, how long ago that was, and how long it may be
+
+
+def silent_since(limit: Callable[[Log, int], int]) -> Reason:
+    def reason(log: Log, k: int) -> Evidence:
+        """The client's last item, or the CONNACK if that came later; for how long nothing came after it, and the limit, in microseconds."""
+        words = "nothing came from the client for {0} microseconds, and the limit is {1}"
+        return Evidence(words, last_of_client(log, k), (silence(log, k), limit(log, k)))
+
+    return reason
+
+
+REASONS["K01"] = silent_since(late_by_client)
+REASONS["K02"] = silent_since(late_by_server)
 assert set(REASONS) == {*CITATIONS, *JUDGED}
 
 # ---- what is said
@@ -537,11 +551,10 @@ def line(k: int, rule: str, found: Evidence) -> str:
     return f"because {k} {rule} event {found.because or '-'}{' numbers' + numbers if numbers else ''}"
 
 
-def lines(recording: Recording, with_words: bool = False, with_all: bool = False) -> list[str]:
-    """The report on a log, or that on all that the program judges, with a line under each fault."""
+def lines(recording: Recording, with_words: bool = False, asked: str = ALWAYS) -> list[str]:
+    """The report on a log, by as many statements as it is asked for, with a line under each fault."""
     log, out = Log(recording.events, recording.role, recording.releases), []
-    report = (on_request if with_all else reference).reported(recording)
-    for said in report.splitlines():
+    for said in on_request.reported(recording, asked).splitlines():
         out.append(said)
         if said.startswith("fault "):
             _, at, rule, *_ = said.split()
@@ -555,6 +568,7 @@ def main() -> int:
     arguments.add_argument("logs", nargs="*", type=Path, metavar="LOG")
     arguments.add_argument("--words", action="store_true", help="say it in words too")
     arguments.add_argument("--all", action="store_true", help="judge by the further statements too that the program judges")
+    arguments.add_argument("--times", action="store_true", help="judge by those on times too")
     arguments.add_argument("--self-test", action="store_true", help="check worked logs, the suite and laws")
     arguments.add_argument("--made", type=int, default=150, help="how many logs of each kind it makes")
     given = arguments.parse_args()
@@ -564,10 +578,11 @@ def main() -> int:
         import worked_because
 
         return worked_because.self_test(given.made)
+    asked = TIMES if given.times else ALL if given.all else ALWAYS
     for path in given.logs:
         if len(given.logs) > 1:
             print(f"{path}:")
-        print(*lines(Recording(path.read_bytes()), given.words, given.all), sep="\n")
+        print(*lines(Recording(path.read_bytes()), given.words, asked), sep="\n")
     return 0
 
 

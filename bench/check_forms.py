@@ -3,14 +3,15 @@
 
 usage: bench/check_forms.py PROGRAM [LOG ..]
 
-The text report of each log is made into the other forms here, in Python: each of the worked logs of check_rows.py, a log of
-3,000 faults, one of long packets that break a rule, one of texts that do, one of packets that aren't whole at a CLOSE, refused logs, some of all these in version 2, one with
-moments of a century, and the logs that are named. What each tests (`--coverage`) is what occasions.py finds, and what its faults
-conflict with (`--why`, `show --faults`) what because.py finds, but for a log that is too long for that. With `--all` each form is made
-from the same text report with the further faults of on_request.py in it, and with `--statements` from that by choosing.py. JSON is also read back by
-Python's json module. What `show --faults` is to print is made from the text report, from what `show` prints, and from Python's
-dates. The bytes of packets that break a rule, or aren't whole at a CLOSE, are those that reading.py finds in the log. Each line of
-`show` is that of showing.py, and each of `show --long` begins with it.
+The text report of each log is made into the other forms here, in Python: each of the worked logs of check_rows.py, a log of 3,000
+faults, one of long packets that break a rule, one of texts that do, one of packets that aren't whole at a CLOSE, refused logs, some of
+all these in version 2, one with moments of a century, and the logs that are named. What each tests (`--coverage`) is what occasions.py
+finds, and what its faults conflict with (`--why`, `show --faults`) what because.py finds, but for a log that is too long for that. With
+`--all`, and of logs of version 2 with `--times`, each form is made from the same text report with the further faults of on_request.py
+in it, and with `--statements` from that by choosing.py. JSON is also read back by Python's json module. What `show --faults` is to
+print is made from the text report, from what `show` prints, and from Python's dates. The bytes of packets that break a rule, or aren't
+whole at a CLOSE, are those that reading.py finds in the log. Each line of `show` is that of showing.py, and each of `show --long`
+begins with it.
 """
 import json
 import os
@@ -34,9 +35,9 @@ import occasions
 import on_request
 import reading
 import showing
-from further_table import JUDGED
+from further_table import ALL, ALWAYS, JUDGED, TIMES
 from judges import STATUSES
-from versions import clock, in_version_2
+from versions import clock, in_version_2, version_of, waits
 
 CONNECT = bytes.fromhex("100D00044D5154540502003C000000")
 CONNACK = bytes.fromhex("2003000000")
@@ -151,6 +152,8 @@ def logs(paths: list[str]) -> list[tuple[str, bytes]]:
     seconds.append(("packets that aren't whole", unfinished()))
     seconds += [(name, log) for name, log in found if name.startswith("examples/")]
     found += [(f"{name}, version 2", in_version_2(log, clock(draw))) for name, log in seconds]
+    late = [*found[::SELDOM], ("20 faults", many_faults(20)), ("a server", asking()), ("a client", wishing())]
+    found += [(f"{name}, with long waits", in_version_2(log, waits(draw))) for name, log in late]
     found.append(("3,000 faults of a century", in_version_2(many_faults(3000), dates(draw))))
     found += [(path, Path(path).read_bytes()) for path in paths]
     return found
@@ -252,13 +255,16 @@ def said_of_faults(name: str, log: bytes, text: str) -> dict[tuple[int, str], st
     It is known by how the log was made, or is what because.py finds.
     """
     faults = [(int(words[1]), words[2]) for words in map(str.split, text.splitlines()) if words[0] == "fault"]
-    if name.startswith("3,000 faults"):
-        return {(at, code): because.Evidence("it holds the identifier", at - 1).said() for at, code in faults}
-    if len(log) >= SHORT and len(faults) > FEW:
+    if len(log) >= SHORT and len(faults) > FEW and not name.startswith("3,000 faults"):
         return None
     recording = reading.Recording(log)
     known = because.Log(recording.events, recording.role, recording.releases)
-    return {(at, code): because.evidence(known, at, code).said() for at, code in faults}
+
+    def said(at: int, code: str) -> str:
+        is_known = name.startswith("3,000 faults") and code == "S01"
+        return (because.Evidence("it holds the identifier", at - 1) if is_known else because.evidence(known, at, code)).said()
+
+    return {(at, code): said(at, code) for at, code in faults}
 
 
 def under_events(events: str, text: str, sentences: dict[str, str], said: dict[tuple[int, str], str], around: int | None) -> str:
@@ -302,7 +308,7 @@ def run(program: str, log: bytes, *words: str) -> tuple[int, str, str]:
 
 def all_sentences(program: str) -> dict[str, str]:
     """What each statement says, by its code."""
-    lines = (line.split(" ", 3) for line in run(program, b"", "rules", "--all")[1].splitlines())
+    lines = (line.split(" ", 3) for line in run(program, b"", "rules", TIMES)[1].splitlines())
     return {code: sentence for code, _, _, sentence in lines}
 
 
@@ -312,36 +318,48 @@ Wanted = dict[tuple[str, ...], Answer]  # what each command line is to answer
 
 def wanted_of(program: str, name: str, log: bytes, path: str, sentences: dict[str, str]) -> Wanted:
     """What each command line is to answer for this log, which is at this path too."""
-    status, text, errors = run(program, log, "check")
-    wanted = wanted_of_checks(name, log, path, (status, text, errors), False)
-    with_all = on_request.with_further(text, reading.Recording(log))
-    answer = STATUSES[with_all.splitlines()[-1].split()[0]], with_all, errors
-    wanted |= {("check", "--all"): answer, **wanted_of_checks(name, log, path, answer, True)}
-    wanted |= wanted_of_choices(name, log, path, with_all, errors)
+    _, text, errors = run(program, log, "check")
+    recording, wanted = reading.Recording(log), {}
+    texts = {asked: on_request.with_further(text, recording, asked) for asked in asked_of(log)}
+    for asked, report in texts.items():
+        answer = STATUSES[report.splitlines()[-1].split()[0]], report, errors
+        wanted |= {("check", *options_of(asked)): answer, **wanted_of_checks(name, log, path, answer, asked)}
+    most = list(texts)[-1]
+    wanted |= wanted_of_choices(name, log, path, texts[most], errors, most)
     for long in ((), ("--long",)):
         shown = run(program, log, "show", *long)
         events = with_bytes(shown[1], log)
         if long:
             wanted["show", *long] = (shown[0], events, shown[2])
-        for report, options in ((text, ()), (with_all, ("--all",))):
+        before = None
+        for asked, report in texts.items():
             said = said_of_faults(name, log, report)
-            distances = (None, 0, 1, 3) if report != text or not options else (0,)
+            distances, before = (None, 0, 1, 3) if report != before else (0,), report
             for around in distances if said is not None else ():
                 nearness = () if around is None else ("--around", str(around))
                 under = under_events(events, report, sentences, said, around)
-                wanted["show", "--faults", *options, *long, *nearness, path] = (shown[0], under, shown[2])
+                wanted["show", "--faults", *options_of(asked), *long, *nearness, path] = (shown[0], under, shown[2])
     return wanted
 
 
-def wanted_of_checks(name: str, log: bytes, path: str, answer: Answer, with_all: bool) -> Wanted:
-    """The other forms of a text report, of the 74 statements or of all."""
+def asked_of(log: bytes) -> tuple[str, ...]:
+    """For how much the program is asked of a log: where all moments are alike for no statement on times."""
+    return (ALWAYS, ALL, TIMES) if version_of(log) == 2 else (ALWAYS, ALL)
+
+
+def options_of(asked: str) -> tuple[str, ...]:
+    return (asked,) if asked else ()
+
+
+def wanted_of_checks(name: str, log: bytes, path: str, answer: Answer, asked: str) -> Wanted:
+    """The other forms of a text report, of the 74 statements or of more."""
     status, text, errors = answer
     wanted = {
         ("--json",): (status, as_json(text), errors),
         ("--summary",): (status, in_short(text), errors),
         ("--json", "--summary"): (status, as_json(text), errors),
     }
-    covered = with_coverage(name, log, text, with_all)
+    covered = with_coverage(name, log, text, asked)
     if covered is not None:
         wanted |= {
             ("--coverage",): (status, covered, errors),
@@ -349,21 +367,20 @@ def wanted_of_checks(name: str, log: bytes, path: str, answer: Answer, with_all:
             ("--coverage", "--summary"): (status, in_short(covered), errors),
             ("--summary", "--coverage", "--json"): (status, as_json(covered), errors),
         }
-    told = with_reasons(log, text, with_all)
+    told = with_reasons(log, text, asked)
     if told is not None:
         wanted |= {
             ("--why", path): (status, told, errors),
             ("--json", "--why", path): (status, as_reasoned_json(told), errors),
             ("--why", "--summary", path): (status, in_short(text), errors),
         }
-    options = ("--all",) if with_all else ()
-    return {("check", *words[:1], *options, *words[1:]): one for words, one in wanted.items()}
+    return {("check", *words[:1], *options_of(asked), *words[1:]): one for words, one in wanted.items()}
 
 
-def wanted_of_choices(name: str, log: bytes, path: str, text: str, errors: str) -> Wanted:
+def wanted_of_choices(name: str, log: bytes, path: str, text: str, errors: str, asked: str) -> Wanted:
     """The forms of the report by some lists of statements, made from the text report on all of them."""
     wanted: Wanted = {}
-    covered, told = with_coverage(name, log, text, True), with_reasons(log, text, True)
+    covered, told = with_coverage(name, log, text, TIMES), with_reasons(log, text, asked)
     for list_ in choosing.lists(random.Random(name), all_codes(), LISTS):
         taken, option = choosing.chosen(list_, all_codes()), f"--statements={list_}"
         kept = choosing.left(text, taken)
@@ -392,24 +409,23 @@ def wrong_lines(program: str, log: bytes) -> list[str]:
     return wrong + [line for line, one in zip_longest(long, wanted, fillvalue="") if not one or not line.startswith(one)]
 
 
-def with_coverage(name: str, log: bytes, text: str, with_all: bool) -> str | None:
+def with_coverage(name: str, log: bytes, text: str, asked: str) -> str | None:
     """The text report with what was tested, which is known by how the log was made, or by occasions.py if it isn't too long."""
     if name.startswith("3,000 faults"):
-        return None if with_all else occasions.covering(text, occasions.of_publishes(3_001))
-    tested = on_request.tested if with_all else occasions.lines
-    return occasions.covering(text, tested(reading.Recording(log))) if len(log) < SHORT else None
+        return None if asked else occasions.covering(text, occasions.of_publishes(3_001))
+    return occasions.covering(text, on_request.tested(reading.Recording(log), asked)) if len(log) < SHORT else None
 
 
-def with_reasons(log: bytes, text: str, with_all: bool) -> str | None:
+def with_reasons(log: bytes, text: str, asked: str) -> str | None:
     """The text report with what each fault conflicts with, as because.py finds it, if the log isn't too long."""
     if text.startswith("refused"):
         return text
-    return reasoned(reading.Recording(log), with_all) if len(log) < SHORT else None
+    return reasoned(reading.Recording(log), asked) if len(log) < SHORT else None
 
 
-def reasoned(recording: reading.Recording, with_all: bool = False) -> str:
+def reasoned(recording: reading.Recording, asked: str = ALWAYS) -> str:
     """The text report on a log that isn't refused, with what each fault conflicts with."""
-    return "".join(f"{line}\n" for line in because.lines(recording, with_all=with_all))
+    return "".join(f"{line}\n" for line in because.lines(recording, asked=asked))
 
 
 def as_reasoned_json(text: str) -> str:

@@ -1,10 +1,10 @@
 #!/usr/bin/env python3
 """Compares the program with the worked logs of the further statements (further_rows.txt), of which it judges some on request.
 
-For each log, by `check --all`, the program has to say the faults that the row has, those of statements that it judges, and no others
-of these; with `--coverage` the places; and with `--why` what the faults conflict with. Each is said beside what reference.py says of
-the 74 statements, and without `--all` the program says nothing else. With no program only the rows are looked at: that each statement
-that the program judges has logs that break and keep it.
+For each log, by `check --all` and by `check --times`, the program has to say the faults that the row has, those of statements that it
+judges then, and no others of these; with `--coverage` the places; and with `--why` what the faults conflict with. Each is said beside
+what reference.py says of the 74 statements, and without these options the program says nothing else. With no program only the rows are
+looked at: that each statement that the program judges has logs that break and keep it.
 
 usage: bench/check_further.py [--mqjudge PATH]
 """
@@ -19,30 +19,31 @@ import further
 import further_worked
 import on_request
 import reference
-from further_table import CITATIONS, JUDGED
+from further_table import ALL, ASKED, CITATIONS, JUDGED, TIMES
 from further_worked import Row
 from judges import judge_on
 
 Wanted = tuple[tuple[str, ...], str]  # words after `check`, and the report
 
 
-def with_faults(row: Row) -> str:
-    """The report of `check --all`, by the faults that are written in the row."""
-    of_judged = [fault for fault in row.faults if fault[1] in JUDGED]
+def with_faults(row: Row, asked: str) -> str:
+    """The report of `check` by this option, by the faults that are written in the row."""
+    of_judged = [fault for fault in row.faults if fault[1] in ASKED[asked]]
     return on_request.merged(reference.reported(row.recording), [further.fault_line(row.log, fault) for fault in of_judged])
 
 
 def wanted(row: Row) -> Iterator[Wanted]:
     """What the program is to say of the log."""
-    report = with_faults(row)
     yield (), reference.reported(row.recording)
-    yield ("--all",), report
-    yield ("--all", "--coverage"), on_request.covering(row.recording)
-    yield ("--why", "--all"), "".join(f"{line}\n" for line in because.lines(row.recording, with_all=True))
+    for asked in (ALL, TIMES):
+        report = with_faults(row, asked)
+        yield (asked,), report
+        yield (asked, "--coverage"), on_request.covering(row.recording, asked)
+        yield ("--why", asked), "".join(f"{line}\n" for line in because.lines(row.recording, asked=asked))
+        assert report == on_request.reported(row.recording, asked), f"{row.line}: other faults are found"
     if row.code in JUDGED:
-        tested = [f"tested {row.code} {CITATIONS[row.code][row.log.role]} places {len(row.places)}"]
-        assert tested[0] in on_request.tested(row.recording), f"{row.line}: other places are counted"
-    assert report == on_request.reported(row.recording), f"{row.line}: other faults are found"
+        tested = f"tested {row.code} {CITATIONS[row.code][row.log.role]} places {len(row.places)}"
+        assert tested in on_request.tested(row.recording, TIMES), f"{row.line}: other places are counted"
 
 
 def unwritten(rows: list[Row]) -> Iterator[str]:

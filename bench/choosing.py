@@ -7,7 +7,7 @@ import random
 import sys
 
 sys.dont_write_bytecode = True  # the repository stays as it is
-from further_table import JUDGED
+from further_table import JUDGED, TIMED, UNTIMED
 
 
 class NoChoiceError(ValueError):
@@ -21,8 +21,10 @@ def chosen(list_: str, codes: list[str]) -> set[str]:
         adds, name = not word.startswith("-"), word.removeprefix("-")
         if at == 0 and not adds:
             taken = set(codes) - set(JUDGED)
-        if name == "all":
+        if name == "times":
             named = set(codes)
+        elif name == "all":
+            named = set(codes) - set(TIMED)
         elif name == "default":
             named = set(codes) - set(JUDGED)
         else:
@@ -37,7 +39,7 @@ def chosen(list_: str, codes: list[str]) -> set[str]:
 
 def lists(draw: random.Random, codes: list[str], count: int) -> list[str]:
     """So many lists that choose something, of up to five words."""
-    names = ["default", "all", *codes, *sorted({code[0] for code in codes}) * 4]
+    names = ["default", "all", "times", *codes, *sorted({code[0] for code in codes}) * 4]
     found: list[str] = []
     while len(found) < count:
         one = ",".join(draw.choice(("", "-")) + draw.choice(names) for _ in range(draw.randrange(1, 6)))
@@ -76,13 +78,17 @@ def self_test() -> list[str]:
         "E": {"E1A"},
         "default,-W": {"C01", "E1A", "L1"},
         "-W13": {"C01", "E1A", "L1"},
-        "all,-default": set(JUDGED),
+        "all,-default": set(UNTIMED),
+        "times,-default": set(JUDGED),
+        "times,-all": {"K01", "K02"},
+        "K": {"K01", "K02"},
+        "K02,all,-K01": {*codes} - {"K01"},
         "W,-all,L": {"L1"},
         "-W,W13": {"W13", "C01", "E1A", "L1"},
         "F01,F01": {"F01"},
     }
     wrong = [f"{list_}: {chosen(list_, codes)}" for list_, wanted in cases.items() if chosen(list_, codes) != wanted]
-    for list_ in ("", "W1", "w13", "-all", "W13,", "W,-W", "W 13", "--W", "Default"):
+    for list_ in ("", "W1", "w13", "-all", "W13,", "W,-W", "W 13", "--W", "Default", "K,-times", "time", "K1"):
         try:
             wrong.append(f"{list_}: {chosen(list_, codes)}")
         except NoChoiceError:

@@ -38,6 +38,7 @@ Options:
       --coverage           Say how often each statement was put to the test
       --why                Say what each fault conflicts with; reads FILE twice if it has faults
       --all                Judge the further statements too
+      --times              Judge those on times too: moments are microseconds
       --statements <LIST>  Report the faults of these statements, such as default,F,-W13
   -h, --help               Print help
 
@@ -59,6 +60,7 @@ Options:
       --faults      Show the faults under their events; reads FILE more than once
       --around <N>  With --faults: only the events within N positions of a fault
       --all         With --faults: judge the further statements too
+      --times       With --faults: as --all, and by those on times
   -h, --help        Print help
 
 Statuses: 0 if the log was shown, 2 for a refused log, 3 for misuse,
@@ -74,6 +76,7 @@ Usage: mqjudge rules [OPTIONS]
 Options:
       --role <role>        Only the statements that bind this end: client or server
       --all                List the further statements too
+      --times              List those on times too
       --statements <LIST>  List these statements, such as default,F,-W13
   -h, --help               Print help
 

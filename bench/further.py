@@ -1,6 +1,6 @@
 #!/usr/bin/env python3
 """Judges a log of one end of an MQTT 5.0 session by the thirty further statements (further_table.py), and prints their faults in the
-form of `mqjudge check`. The program judges those of `JUDGED` too, with `--all`; the others nothing else judges.
+form of `mqjudge check`. The program judges those of `JUDGED` too, with `--all` or `--times`; the others nothing else judges.
 
 This is a second opinion, and no part of the program. It was written from the words alone, before anything that is proved. What it
 needs of the 74 statements' second opinion (reading.py, sessions.py, and words of statements.py) it takes from there. Where a fault
@@ -8,11 +8,11 @@ is decided is said by the statement; that it is so, and that each beginning of a
 the program says the same is checked by check_further.py, check_forms.py and fuzz.py, over on_request.py.
 
 K01 and K02 need a log of version 2 whose moments are microseconds, and are judged with --times alone. With --judged the log is
-judged by those statements alone that the program judges.
+judged by those statements alone that the program judges with `--all`, or together with --times by those that it judges then.
 
-usage: bench/further.py [--times | --judged] LOG..
+usage: bench/further.py [--times] [--judged] LOG..
        bench/further.py --self-test [--made 100]
-       bench/further.py --rules
+       bench/further.py --rules [--judged [--times]]
 """
 import argparse
 import sys
@@ -24,14 +24,14 @@ import further_duties
 import further_grants
 import further_manners
 import further_times
-from further_table import CITATIONS, DECIDED, JUDGED, OCCASIONS, OF_SESSIONS, SENTENCES, TIMED, about
+from further_table import ALL, ASKED, CITATIONS, DECIDED, JUDGED, OCCASIONS, OF_SESSIONS, SENTENCES, TIMED, TIMES, about
 from reading import Recording
 from sessions import Log
 
 FAMILIES = (further_manners, further_duties, further_grants, further_times)
 assert set(DECIDED) == set(OCCASIONS) == set(CITATIONS)
 assert JUDGED == tuple(code for code in CITATIONS if code in JUDGED), "they aren't in the order of reports"
-ALL = tuple(CITATIONS)
+EVERY = tuple(CITATIONS)
 Fault = tuple[int, str, int]  # the position, the statement, and where it is decided
 
 
@@ -50,7 +50,7 @@ def decided(log: Log, k: int, code: str) -> int | None:
     return max(at, log.first_connacks[log.places[k]]) if at is not None and code in OF_SESSIONS else at
 
 
-def faults(log: Log, times: bool = False, codes: Container[str] = ALL) -> list[Fault]:
+def faults(log: Log, times: bool = False, codes: Container[str] = EVERY) -> list[Fault]:
     """Those of these statements."""
     tried = [(k, code) for k in range(1, log.last + 1) for code in about(log.event(k).subject(), log.role, times) if code in codes]
     return [(k, code, at) for k, code in tried if (at := decided(log, k, code)) is not None]
@@ -73,7 +73,7 @@ def fault_line(log: Log, fault: Fault) -> str:
     return f"fault {k} {code} {CITATIONS[code][log.role]} decided {at} record {log.event(k).record} offset -"
 
 
-def report(recording: Recording, times: bool, codes: Container[str] = ALL) -> list[str]:
+def report(recording: Recording, times: bool, codes: Container[str] = EVERY) -> list[str]:
     if recording.refusal is not None:
         return [recording.refusal.text()]
     log = log_of(recording)
@@ -93,9 +93,7 @@ def main() -> int:
     given = arguments.parse_args()
     if bool(given.logs) + given.rules + given.self_test != 1:
         arguments.error("name logs, or give --self-test or --rules")
-    if given.times and given.judged:
-        arguments.error("the program judges no statement on times")
-    codes = JUDGED if given.judged else ALL
+    codes = ASKED[TIMES if given.times else ALL] if given.judged else EVERY
     if given.self_test:
         import further_worked
 

@@ -1,5 +1,5 @@
 """The thirty further statements, in the order of reports: code, citations, and what each says; where its words are kept; and which of
-them the program judges, on request.
+them the program judges, on request: most if it is asked by `--all`, and those on times too if it is asked by `--times`.
 
 They are a part of the second opinion that further.py gives, and no part of the program. Each was written from the words of
 docs/DECISIONS.md and of the standard, before the program judged any. Like those of statements.py they look at the whole log for
@@ -53,9 +53,12 @@ for line in SHAPES.strip().split("\n"):
     code, client, server, sentence = line.split(" ", 3)
     CITATIONS[code] = {role: text for role, text in (("client", client), ("server", server)) if text != "-"}
     SENTENCES[code] = sentence
-# That the program judges too, if `--all` asks for them.
-JUDGED = ("B05", "F01", "F02", "F03", "F04", "F05", "F06", "V03", "V04", "V06", "C24", "D01", "D02", "D03", "D05", "A01", "A02", "A03")
-TIMED = {"K01", "K02"}  # that look at moments
+TIMED = ("K01", "K02")  # that look at moments
+ALWAYS, ALL, TIMES = "", "--all", "--times"  # how much the program is asked for: by no option, or by one of these
+UNTIMED = ("B05", "F01", "F02", "F03", "F04", "F05", "F06", "V03", "V04", "V06", "C24", "D01", "D02", "D03", "D05", "A01", "A02", "A03")
+# Those that the program judges too, by the option that asks for them; and all of them.
+ASKED: dict[str, tuple[str, ...]] = {ALWAYS: (), ALL: UNTIMED, TIMES: (*UNTIMED, *TIMED)}
+JUDGED = ASKED[TIMES]
 OF_SESSIONS = {code for code in CITATIONS if code[0] in "BPR"}  # that are judged only where the session is known
 
 Decided = Callable[[Log, int], int | None]  # where the fault at a position is decided; None if there is none

@@ -57,8 +57,21 @@ def size(log: Log, k: int) -> int:
 
 def is_first_beyond(log: Log, k: int, limit: int) -> bool:
     """It comes beyond the limit, as the first event since the client's last item; and it isn't so large that it took its time."""
-    between = [j for j in log.before_on(k) if j > last_of_client(log, k)]
-    return silence(log, k) > limit and not any(silence(log, j) > limit for j in between) and size(log, k) <= LARGE
+    if silence(log, k) <= limit or size(log, k) > LARGE:
+        return False
+    last = last_of_client(log, k)
+    return not any(silence(log, j) > limit for j in log.before_on(k) if j > last)
+
+
+def late_by_client(log: Log, k: int) -> int:
+    """After how many microseconds a client is silent for too long: 1.25 times the Keep Alive, and a second."""
+    return keep_alive(log, log.places[k]) * SECOND * 5 // 4 + SECOND
+
+
+def late_by_server(log: Log, k: int) -> int:
+    """After how many a server has to have closed: 1.5 times the Keep Alive, and the larger of half of it and 5 seconds."""
+    seconds = keep_alive(log, log.places[k])
+    return seconds * SECOND * 3 // 2 + max(seconds * SECOND // 2, 5 * SECOND)
 
 
 @applies("K01")
@@ -69,10 +82,10 @@ def comes_late(log: Log, k: int) -> bool:
 
 @fails("K01", None)
 def is_silent(log: Log, k: int) -> bool:
-    """Later than 1.25 times the Keep Alive, and a second. A packet that the end of the connection cut off may have taken its time."""
+    """Later than it may be. A packet that the end of the connection cut off may have taken its time."""
     if not is_judged(log, k) or log.event(k).begun is not None:
         return False
-    return is_first_beyond(log, k, keep_alive(log, log.places[k]) * SECOND * 5 // 4 + SECOND)
+    return is_first_beyond(log, k, late_by_client(log, k))
 
 
 @applies("K02")
@@ -83,8 +96,5 @@ def has_to_close(log: Log, k: int) -> bool:
 
 @fails("K02", None)
 def stays_open(log: Log, k: int) -> bool:
-    """Later than 1.5 times the Keep Alive, and the larger of half of it and 5 seconds."""
-    if not is_judged(log, k):
-        return False
-    seconds = keep_alive(log, log.places[k])
-    return is_first_beyond(log, k, seconds * SECOND * 3 // 2 + max(seconds * SECOND // 2, 5 * SECOND))
+    """Later than it has to close."""
+    return is_judged(log, k) and is_first_beyond(log, k, late_by_server(log, k))

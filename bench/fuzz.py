@@ -5,9 +5,10 @@ others do.
 The logs are those of hostile_logs.py: sessions in which the tested end does right, others, the same changed, and garbage; a third
 of them are of version 2, with moments of any kind, and records that are cut inside their heads. `check`, as text and as JSON, is
 compared with reference.py; `check --coverage`, on a third of the logs, with occasions.py; `check --why`, on another third, with
-because.py; `check --all` with reference.py and further.py, on a sixth of them with --coverage, and on another with --why; `show` and
-`packet` with reference.py's reading and, where there is rustc, with the plain program of this folder. A log in which the tested end
-does right must pass, also with --all. A divergence is printed with its seed, its number, and a log that is made as short as it can
+because.py; `check --all` with reference.py and further.py, on a sixth of them with --coverage, and on another with --why; of half of the
+logs of version 2 all that is asked with --times instead; `show` and `packet` with reference.py's reading and, where there is rustc, with
+the plain program of this folder. A log in which the tested end does right must pass, also with --all, and with --times if it does right
+by its moments. A divergence is printed with its seed, its number, and a log that is made as short as it can
 be, which is also written to a file. The last lines say how many logs put each further statement to the test, how many divergences
 there were, and how many logs it tried a minute.
 
@@ -45,13 +46,14 @@ import on_request
 import reference
 import showing
 from asking import Answer, Memory, Runner, Server
-from further_table import JUDGED
+from further_table import ALL, ALWAYS, JUDGED, TIMES
 from hostile_logs import Made
 from judges import BUILT, STATUSES
 from program_runs import CAPTURE_HINT, GZIP_HINT
 from reading import Recording
 from run import build_baseline
 from shortening import shortest, shortest_packet, words
+from versions import version_of
 
 PATIENCE = 60  # seconds that the programs have for one log
 MOST_FOUND = 3  # divergences after which all workers end
@@ -59,14 +61,17 @@ BATCH = 100  # logs that a worker gets at once, at most
 PORTION = 10_000  # logs after which it says how many there were
 HERE = Path(__file__).resolve().parent
 FOUND = Path(tempfile.gettempdir()) / "mqjudge-fuzz"
-CHECK_ALL = "check --all"
+CHECK_ALL = f"check {ALL}"
 LOG_TASKS = ("check", CHECK_ALL, "check --json", "show")
 COVERAGE, WHY = "check --coverage", "check --why"
-ALL_COVERAGE, ALL_WHY = "check --coverage --all", "check --all --why"
+ALL_COVERAGE, ALL_WHY = f"check --coverage {ALL}", f"check {ALL} --why"
 # In turn: what was tested, and what faults conflict with. Of the further statements too it is every sixth log.
 SELDOM = (COVERAGE, WHY, ALL_COVERAGE, COVERAGE, WHY, ALL_WHY)
+ON_TIMES = {task: task.replace(ALL, TIMES) for task in (CHECK_ALL, ALL_COVERAGE, ALL_WHY)}
 MOST_SELDOM = 10_000  # bytes of such a log, since occasions.py and because.py take time by the square of it
 PACKET = "packet"
+# The logs in which the tested end does right, and how much may be asked of them.
+RIGHT_BY = {hostile_logs.HONEST: TIMES, hostile_logs.AT_ANY_TIME: ALL}
 # The bytes that captures begin with (pcap in microseconds and nanoseconds, of both byte orders, and pcapng), and those of gzip.
 CAPTURES = (b"\xd4\xc3\xb2\xa1", b"\xa1\xb2\xc3\xd4", b"\x4d\x3c\xb2\xa1", b"\xa1\xb2\x3c\x4d", b"\x0a\x0d\x0d\x0a")
 GZIP = b"\x1f\x8b"
@@ -90,9 +95,14 @@ def read(log: bytes) -> Recording:
     return Recording(log)
 
 
-@lru_cache(maxsize=4)
-def report_of(log: bytes, with_all: bool = False) -> str:
-    return on_request.with_further(report_of(log), read(log)) if with_all else reference.reported(read(log))
+@lru_cache(maxsize=6)
+def report_of(log: bytes, asked: str = ALWAYS) -> str:
+    return on_request.with_further(report_of(log), read(log), asked) if asked else reference.reported(read(log))
+
+
+def asked_by(task: str) -> str:
+    """For how much the program is asked by the words of a task."""
+    return next((option for option in (TIMES, ALL) if option in task), ALWAYS)
 
 
 def by_reference(task: str, data: bytes) -> Answer:
@@ -101,12 +111,12 @@ def by_reference(task: str, data: bytes) -> Answer:
         return (*showing.packet(data), "")
     if task == "show":
         return (*showing.shown(read(data)), hint(data))
-    with_all = "--all" in task
-    text = report_of(data, with_all)
+    asked = asked_by(task)
+    text = report_of(data, asked)
     if "--coverage" in task:
-        text = occasions.covering(text, (on_request.tested if with_all else occasions.lines)(read(data)))
+        text = occasions.covering(text, on_request.tested(read(data), asked))
     if "--why" in task and verdict(text) == "fail":
-        text = check_forms.reasoned(read(data), with_all)
+        text = check_forms.reasoned(read(data), asked)
     return STATUSES[verdict(text)], check_forms.as_json(text) if "--json" in task else text, hint(data)
 
 
@@ -120,7 +130,7 @@ class Programs:
     def __init__(self, program: Path, plain: Path | None):
         self.program, self.plain = str(program), Server(plain) if plain else None
         self.log = Memory("log")
-        self.runners = {task: Runner() for task in (*LOG_TASKS, *SELDOM, PACKET)}
+        self.runners = {task: Runner() for task in (*LOG_TASKS, *SELDOM, *ON_TIMES.values(), PACKET)}
         signal.signal(signal.SIGALRM, lambda *_: self.kill())
 
     def command(self, task: str, packet: bytes) -> list[str]:
@@ -209,19 +219,25 @@ def work(plan: Plan) -> Tally:
             break
         made = hostile_logs.made(plan.seed, number)
         tally.logs += 1
-        seldom = [SELDOM[number % len(SELDOM)]] if len(made.log) < MOST_SELDOM else []
-        tasks = (*LOG_TASKS, *seldom, PACKET)
-        found = programs.divergences(tasks, made.log, made.packet)
+        found = programs.divergences(tasks_of(number, made.log), made.log, made.packet)
         tally.verdicts[verdict(report_of(made.log))] += 1
-        if seldom:
+        if len(made.log) < MOST_SELDOM:
             tally.tested.update(tested_further(made.log))
-        is_honest = made.kind in (hostile_logs.HONEST, hostile_logs.AT_ANY_TIME)
-        is_unpassed = is_honest and verdict(report_of(made.log, True)) != "pass"
+        most = RIGHT_BY.get(made.kind)
+        is_unpassed = most is not None and verdict(report_of(made.log, most)) != "pass"
         if found or is_unpassed:
             with found_by_all:
                 found_by_all.value += 1
-            tally.files.append(tell(plan, programs, number, made, found) if found else tell_unpassed(plan, number, made.log))
+            tally.files.append(tell(plan, programs, number, made, found) if found else tell_unpassed(plan, number, made.log, most or ALL))
     return tally
+
+
+def tasks_of(number: int, log: bytes) -> tuple[str, ...]:
+    """What the program is asked of the log of this number."""
+    seldom = [SELDOM[number % len(SELDOM)]] if len(log) < MOST_SELDOM else []
+    tasks = (*LOG_TASKS, *seldom, PACKET)
+    is_timed = version_of(log) == 2 and number // len(SELDOM) % 2 == 0
+    return tuple(ON_TIMES.get(task, task) for task in tasks) if is_timed else tasks
 
 
 def tested_further(log: bytes) -> list[str]:
@@ -230,11 +246,11 @@ def tested_further(log: bytes) -> list[str]:
     return [code for code in JUDGED if further.places(events, code)]
 
 
-def tell_unpassed(plan: Plan, number: int, log: bytes) -> Path:
+def tell_unpassed(plan: Plan, number: int, log: bytes, asked: str) -> Path:
     """Prints a log that should pass, and writes it to a file."""
     path = plan.out / f"{plan.seed}-{number}.log"
     path.write_bytes(log)
-    lines = [f"{words(log):.2000}", f"in {path}", *report_of(log, True).splitlines()]
+    lines = [f"{words(log):.2000}", f"in {path}", *report_of(log, asked).splitlines()]
     said = f"seed {plan.seed}, log {number}: the tested end does right, and the log doesn't pass"
     print("\n  ".join([said, *lines]), flush=True)
     return path
@@ -307,6 +323,9 @@ FLAWS = {
     "a further fault at another place": (r"s/^fault \([0-9]*\) A02 /fault \11 A02 /", 120),
     "a place of a further statement too many": (r"s/^\(tested F06 .* places\) 0$/\1 1/", 40),
     "a further fault's event": (r"s/^\(because .* A02 event\) 2$/\1 1/", 120),
+    "a silence that isn't reported": ("/^fault .* K0[12] /d", 160),
+    "a silence of another length": (r"s/^\(because .* K0[12] .* numbers \)/\11/", 120),
+    "a place of a statement on times too many": (r"s/^\(tested K0[12] .* places\) 0$/\1 1/", 60),
     "a decided position in JSON": (r's/"decided":\([0-9]*\),/"decided":1\1,/', 40),
     "DUP as it is shown": ("s/dup 1/dup 0/", 40),
     "a place too many": (r"s/^\(tested .* places\) 1$/\1 2/", 40),

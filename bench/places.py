@@ -2,13 +2,14 @@
 """Says of logs at how many positions each statement is put to the test, its places, and what isn't judged.
 
 It is a part of the second opinion that reference.py gives, and no part of the program: occasions.py has the statements, and
-gaps.py what isn't judged. With --all the further statements that the program judges on request are listed too, as further.py has them.
+gaps.py what isn't judged. With --all or --times the further statements that the program judges by that are listed too, as further.py has
+them.
 
 For each log it prints a line for each statement that can be judged for its end, how many of these have a place, and a line for
 each thing that isn't judged. A statement on packets that only the other end sends is left out if it has none. With --self-test it
 checks worked logs and those of the suite, and laws on these and many others.
 
-usage: bench/places.py [--all] LOG..
+usage: bench/places.py [--all | --times] LOG..
        bench/places.py --self-test [--made 200]
 """
 import argparse
@@ -27,7 +28,8 @@ import on_request
 import random_logs
 import suite
 import worked_places
-from occasions import all_places, coverage, lines, log_of, places
+from further_table import ALL, ALWAYS, ASKED, TIMES
+from occasions import all_places, coverage, log_of, places
 from reading import Recording
 from reference import beginning, faults
 from sessions import Log
@@ -41,7 +43,7 @@ SHORT = 5_000  # bytes of a worked log on which the laws are checked
 
 def wrong_worked(worked: list[worked_places.Worked]) -> Iterator[str]:
     for one in worked:
-        found = on_request.places(one.log, one.rule) if one.is_asked else places(one.log, one.rule)
+        found = on_request.places(one.log, one.rule) if one.rule in ASKED[one.asked] else places(one.log, one.rule)
         if found != one.places:
             yield f"{one.name}: wanted {one.places}, found {found}"
 
@@ -110,7 +112,8 @@ class Laws:
 
 def self_test(count: int) -> int:
     begun = time.monotonic()
-    worked, laws = [*worked_places.proved(), *worked_places.rows()], Laws()
+    timed = (one for one in worked_places.proved(worked_places.PROVED_TIMED) if not one.has_faults)
+    worked, laws = [*worked_places.proved(), *timed, *worked_places.rows()], Laws()
     logs = [(row, log_of(Recording(row.log))) for row in suite.rows()]
     wrong = [*wrong_worked(worked), *wrong_gaps(), *wrong_suite(logs)]
     short = [(row.name, row.log) for row in check_rows.rows() if len(row.log) < SHORT]
@@ -128,6 +131,7 @@ def main() -> int:
     arguments = argparse.ArgumentParser(description="Says of logs at how many positions each statement is put to the test.")
     arguments.add_argument("logs", nargs="*", type=Path, metavar="LOG")
     arguments.add_argument("--all", action="store_true", help="list the further statements too that the program judges")
+    arguments.add_argument("--times", action="store_true", help="list those on times too")
     arguments.add_argument("--self-test", action="store_true", help="check worked logs, the suite and laws")
     arguments.add_argument("--made", type=int, default=200, help="how many logs of each kind it makes")
     given = arguments.parse_args()
@@ -135,12 +139,12 @@ def main() -> int:
         arguments.error("name logs, or give --self-test")
     if given.self_test:
         return self_test(given.made)
+    asked = TIMES if given.times else ALL if given.all else ALWAYS
     for path in given.logs:
         recording = Recording(path.read_bytes())
         if len(given.logs) > 1:
             print(f"{path}:")
-        tested = on_request.tested if given.all else lines
-        print(*([recording.refusal.text()] if recording.refusal else tested(recording)), sep="\n")
+        print(*([recording.refusal.text()] if recording.refusal else on_request.tested(recording, asked)), sep="\n")
     return 0
 
 

@@ -15,8 +15,8 @@ from pathlib import Path
 
 sys.dont_write_bytecode = True  # the repository stays as it is
 from program_runs import (
-    FAULTY, FILES, FURTHER_ROWS, GOOD, GOOD_2, LONG_FAIL, MANY_2, OF_CLIENT, PASS, RUNS, UNTOLD, UNWRITTEN, WRITE_FAILED,
-    unread,
+    FAULTY, FILES, FURTHER_ROWS, GOOD, GOOD_2, LONG_FAIL, MANY_2, OF_CLIENT, ON_TIMES_ROWS, PASS, RUNS, UNTOLD, UNWRITTEN,
+    WRITE_FAILED, unread,
 )
 
 HERE = Path(__file__).resolve().parent
@@ -153,7 +153,7 @@ def kept(path: Path) -> tuple[bytes, int, int, int]:
 
 
 # Nothing but `convert` changes a file; these read one.
-CHECKS = [["check"], ["check", "--json"], ["check", "--summary"], ["check", "--coverage"], ["check", "--all"]]
+CHECKS = [["check"], ["check", "--json"], ["check", "--summary"], ["check", "--coverage"], ["check", "--all"], ["check", "--times"]]
 READING = [*CHECKS, ["check", "--why"], ["show"], ["show", "--long"], ["show", "--faults"], ["show", "--faults", "--all"]]
 
 
@@ -175,13 +175,16 @@ def changes(program: Path) -> Iterator[tuple[str, tuple, tuple]]:
 
 def listed(program: Path) -> Iterator[tuple[str, tuple, tuple]]:
     """Of the further statements: what is found in the list of statements, and in what explains one, and what is wanted."""
-    for words, more in (([], FURTHER_ROWS), (["--role", "client"], OF_CLIENT)):
+    of_client = ON_TIMES_ROWS.splitlines(keepends=True)[0]
+    for words, more, most in (([], FURTHER_ROWS, ON_TIMES_ROWS), (["--role", "client"], OF_CLIENT, of_client)):
         plain = run(program, ["rules", *words], b"")
-        wanted = (0, plain[1] + more, "")
-        named = [line[:3] for line in more.splitlines() if line[:3] in plain[1].split()]
+        named = [line[:3] for line in (more + most).splitlines() if line[:3] in plain[1].split()]
         yield f"rules {words} names no further statement", (str(named),), ("[]",)
-        yield f"rules --all {words}", run(program, ["rules", "--all", *words], b""), wanted
-    for row in FURTHER_ROWS.splitlines():
+        yield f"rules --all {words}", run(program, ["rules", "--all", *words], b""), (0, plain[1] + more, "")
+        for options in (["--times"], ["--times", "--all"]):
+            wanted = (0, plain[1] + more + most, "")
+            yield f"rules {options} {words}", run(program, ["rules", *options, *words], b""), wanted
+    for row in (FURTHER_ROWS + ON_TIMES_ROWS).splitlines():
         code, ends, citation, sentence = row.split(" ", 3)
         for word in (code, code.lower(), *citation.split(";")):
             status, text, errors = run(program, ["explain", word], b"")

@@ -20,9 +20,9 @@ CONNACK = b"\x03\x00\x00\x00\x05\x20\x03\x00\x00\x00"
 PUBLISH = b"\x02\x00\x00\x00\x09\x32\x07\x00\x01a\x00\x01\x00x"
 
 
-def timed(record: bytes) -> bytes:
-    """The record as it is in version 2, with the moment 0."""
-    return record[:5] + bytes(8) + record[5:]
+def timed(record: bytes, moment: int = 0) -> bytes:
+    """The record as it is in version 2, with this moment."""
+    return record[:5] + moment.to_bytes(8, "big") + record[5:]
 
 
 HEADER_2 = b"MQTR\x02\x00\x01\x00"
@@ -41,6 +41,14 @@ AUTH = b"\x02\x00\x00\x00\x02\xf0\x00"
 UNASKED = GOOD + AUTH
 FAULTY_TWICE = FAULTY + AUTH
 MANY_2 = CONNECTED_2 + timed(PING_RECORD)
+
+# The session with the AUTH in version 2, which comes a microsecond later than it may by a Keep Alive of 60 seconds; the faulty one, whose
+# last PUBLISH comes just not too late; and a server that closes the connection of a silent client a microsecond too late.
+MOST_SILENT, MOST_OPEN = 76_000_000, 120_000_000
+SILENT = GOOD_2 + timed(AUTH, MOST_SILENT + 1)
+IN_TIME = GOOD_2 + timed(PUBLISH, MOST_SILENT)
+ACCEPTED = timed(OPEN) + timed(b"\x03\x00\x00\x00\x10\x10\x0e\x00\x04MQTT\x05\x02\x00\x3c\x00\x00\x01c") + timed(b"\x02" + CONNACK[1:])
+KEPT_OPEN = b"MQTR\x02\x01\x01\x00" + ACCEPTED + timed(CLOSE, MOST_OPEN + 1)
 
 # The faulty one in version 2, with moments; and one whose body is longer than it may be in version 1.
 TIMED = b"MQTR\x02\x00\x01\x00" + b"".join(
@@ -70,6 +78,19 @@ ASKED_JSON = (
     '{"events":5,"faults":[{"citation":"MQTT-4.12.0-7","code":"A02","decided":5,"offset":null,"position":5,"record":5}],"verdict":"fail"}\n'
 )
 ASKED_TWICE = FAIL.replace("fail 1 faults 5", "fault 6 A02 MQTT-4.12.0-7 decided 6 record 6 offset -\nfail 2 faults 6")
+TIMED_FAULT = "fault 5 K01 MQTT-3.1.2-20,MQTT-3.2.2-21 decided 5 record 5 offset -\n"
+SILENT_FAIL = ASKED.replace("fail 1 faults", f"{TIMED_FAULT}fail 2 faults")
+SILENT_ALONE = TIMED_FAULT + "fail 1 faults 5 events\n"
+SILENT_ALONE_REASONED = SILENT_ALONE.replace("\nfail", "\nbecause 5 K01 event 4 numbers 76000001 76000000\nfail")
+SILENT_REASONED = ASKED_REASONED.replace("fail 1 faults 5 events\n", SILENT_ALONE_REASONED.replace("fail 1", "fail 2"))
+SILENT_JSON = (
+    '{"events":5,"faults":[{"because":4,"citation":"MQTT-3.1.2-20,MQTT-3.2.2-21","code":"K01","decided":5,"numbers":[76000001,76000000],'
+    '"offset":null,"position":5,"record":5}],"verdict":"fail"}\n'
+)
+SILENT_SUMMARY = (
+    "A02 MQTT-4.12.0-7 faults 1 first 5 record 5\nK01 MQTT-3.1.2-20,MQTT-3.2.2-21 faults 1 first 5 record 5\nfail 2 faults 5 events\n"
+)
+KEPT_OPEN_FAIL = "fault 4 K02 MQTT-3.1.2-22,MQTT-3.2.2-22 decided 4 record 4 offset -\nfail 1 faults 4 events\n"
 SUMMARY = "S01 MQTT-2.2.1-3 faults 1 first 5 record 5\nfail 1 faults 5 events\n"
 LONG_FAIL = FAIL.replace(" 5 events", " 115 events")
 REFUSED = "refused 7 Nested at 13\n"
@@ -93,13 +114,16 @@ FURTHER_OF_CLIENT = {
     "A02": "MQTT-4.12.0-7",
     "A03": "MQTT-4.12.0-5,MQTT-4.12.1-1",
 }
+ON_TIMES_OF_CLIENT = {"K01": "MQTT-3.1.2-20,MQTT-3.2.2-21"}
 
 
-def covering_all(report: str, publishes: int, auths: int) -> str:
-    """The same of one that also sends so many AUTHs, with the further statements too. (An AUTH tests what a PINGREQ does, and A02.)"""
+def covering_all(report: str, publishes: int, auths: int, waits: int | None = None) -> str:
+    """The same of one that also sends so many AUTHs, with the further statements too. (An AUTH tests what a PINGREQ does, and A02.) If it
+    is said after how many long waits something comes, it is with those on times."""
     *rows, _, gap = occasions.of_publishes(publishes, pings=auths)
-    places = {"A02": auths}
-    rows += [f"tested {code} {citation} places {places.get(code, 0)}" for code, citation in FURTHER_OF_CLIENT.items()]
+    places = {"A02": auths, "K01": waits}
+    codes = FURTHER_OF_CLIENT | (ON_TIMES_OF_CLIENT if waits is not None else {})
+    rows += [f"tested {code} {citation} places {places.get(code, 0)}" for code, citation in codes.items()]
     return occasions.covering(report, [*rows, occasions.sum_of(rows), gap])
 
 
@@ -122,6 +146,12 @@ ASKED_LINES = """\
 5 record 5 SENT AUTH size 2
   fault A02 MQTT-4.12.0-7 Without an Authentication Method in CONNECT there is no enhanced authentication. (because of event 2: the CONNECT, without an Authentication Method)
 """
+SILENT_LINES = f"""\
+..
+5 record 5 moment 76000001 SENT AUTH size 2
+{ASKED_LINES.splitlines()[2]}
+  fault K01 MQTT-3.1.2-20,MQTT-3.2.2-21 A client isn't silent for longer than the Keep Alive. (because of event 4: nothing came from the client for 76000001 microseconds, and the limit is 76000000)
+"""
 TIMED_LINES = """\
 1 record 1 moment 0 OPEN
 2 record 2 moment 1764176601123456 SENT CONNECT size 15
@@ -137,7 +167,7 @@ WRITE_FAILED = "mqjudge: write failed\n"
 NO_FILE = "mqjudge: --faults reads the log more than once, so it needs a FILE, not standard input\n"
 SAME_FILE = "mqjudge: OUT has to be another file than IN\n"
 NO_FAULTS = "mqjudge: --around needs --faults\n"
-NO_FAULTS_FOR_ALL = "mqjudge: --all needs --faults\n"
+NO_FAULTS_FOR_ALL = "mqjudge: --all and --times need --faults\n"
 CODES = (
     [f"W{n:02}" for n in range(1, 22)]
     + [f"C{n:02}" for n in range(1, 24)]
@@ -146,6 +176,7 @@ CODES = (
 )
 # Those that are judged only on request, and named all the same.
 FURTHER = ["B05", "F01", "F02", "F03", "F04", "F05", "F06", "V03", "V04", "V06", "C24", "D01", "D02", "D03", "D05", "A01", "A02", "A03"]
+ON_TIMES = ["K01", "K02"]
 FURTHER_ROWS = """\
 B05 server sec-3.9.3 A SUBACK grants no more than was asked for.
 F01 client MQTT-3.2.2-14 A new PUBLISH has RETAIN 0 where Retain Available is 0.
@@ -165,6 +196,10 @@ D05 server sec-3.3.4 After more QoS 2 PUBLISHes than its Receive Maximum the ser
 A01 client MQTT-3.1.2-30 A client that uses an Authentication Method sends only AUTH and DISCONNECT before a CONNACK was received.
 A02 both MQTT-4.12.0-7;MQTT-4.12.0-6 Without an Authentication Method in CONNECT there is no enhanced authentication.
 A03 both MQTT-4.12.0-5,MQTT-4.12.1-1;MQTT-4.12.0-5 AUTH and an accepting CONNACK have the Authentication Method of the CONNECT.
+"""
+ON_TIMES_ROWS = """\
+K01 client MQTT-3.1.2-20,MQTT-3.2.2-21 A client isn't silent for longer than the Keep Alive.
+K02 server MQTT-3.1.2-22,MQTT-3.2.2-22 A server closes the connection of a client that is silent.
 """
 OF_CLIENT = """\
 F01 client MQTT-3.2.2-14 A new PUBLISH has RETAIN 0 where Retain Available is 0.
@@ -187,11 +222,12 @@ def rows_of(families: str, rows: str) -> str:
 
 NO_X99 = f"""\
 mqjudge: no statement X99
-mqjudge: there are {" ".join(CODES + FURTHER)}, and citations such as MQTT-4.4.0-1: see mqjudge rules
+mqjudge: there are {" ".join(CODES + FURTHER + ON_TIMES)}, and citations such as MQTT-4.4.0-1: see mqjudge rules
 """
-CHOICES = f"mqjudge: there are default, all, {' '.join(CODES + FURTHER)}, and a family for each letter that codes begin with: see mqjudge rules --all\n"
+SETS, LETTERS = "default, all, times", "and a family for each letter that codes begin with: see mqjudge rules --times"
+CHOICES = f"mqjudge: there are {SETS}, {' '.join(CODES + FURTHER + ON_TIMES)}, {LETTERS}\n"
 NO_CHOICE = f"mqjudge: --statements leaves no statement\n{CHOICES}"
-TWO_CHOICES = "mqjudge: --all and --statements both choose statements: give one of them\n"
+TWO_CHOICES = "mqjudge: --all, --times and --statements choose statements: give one of them\n"
 NO_BROKER = "mqjudge: no role broker\nmqjudge: there are client and server\n"
 CAPTURE_HINT = "mqjudge: it is a capture: recorders/from-capture makes logs of it\n"
 GZIP_HINT = "mqjudge: it is compressed by gzip: unpack it first; of a capture recorders/from-capture makes logs\n"
@@ -258,7 +294,7 @@ GZIPPED = gzip.compress(GOOD)
 FILES = {"good.log": GOOD, "faulty.log": FAULTY, "nested.log": NESTED, "short.log": GOOD[:-1], "many.log": MANY, "-": FAULTY}
 FILES |= {"timed.log": TIMED, "long.log": LONG, "short-moment.log": TIMED[:20]}
 FILES |= {"a.pcap": PCAP, "fine.pcap": FINE_PCAP, "a.pcapng": PCAPNG, "good.log.gz": GZIPPED, "short.gz": GZIPPED[:2], "two.log": b"MQ"}
-FILES |= {"unasked.log": UNASKED, "twice.log": FAULTY_TWICE}
+FILES |= {"unasked.log": UNASKED, "twice.log": FAULTY_TWICE, "silent.log": SILENT, "in-time.log": IN_TIME, "kept-open.log": KEPT_OPEN}
 FILES |= {"unfinished.log": CUT, "good-2.log": GOOD_2, "old.log": MANY, "dash.log": MANY, "kept.log": MANY, "copy.log": GOOD}
 
 RUNS = [
@@ -340,6 +376,38 @@ RUNS = [
     Run(["show", "--all", "--around", "1", "unasked.log"], 3, errors=NO_FAULTS),
     Run(["show", "--all", "--faults"], 3, errors=NO_FILE, stdin=GOOD),
     Run(["check", "--all", "--all", "good.log"], 3, errors=TWICE.replace("--coverage", "--all")),
+    # Those on times only if they are asked for too: what `--all` says stays.
+    Run(["check", "silent.log"], 0, "pass 5 events\n", stdin=FAULTY),
+    Run(["check", "--all", "silent.log"], 1, ASKED),
+    Run(["check", "--times", "silent.log"], 1, SILENT_FAIL, stdin=GOOD),
+    Run(["check", "--times"], 1, SILENT_FAIL, stdin=SILENT),
+    Run(["check", "--times", "--all", "silent.log"], 1, SILENT_FAIL),
+    Run(["check", "--all", "--times", "silent.log"], 1, SILENT_FAIL),
+    Run(["check", "--times", "in-time.log"], 1, FAIL),
+    Run(["check", "--times", "kept-open.log"], 1, KEPT_OPEN_FAIL),
+    Run(["check", "--all", "kept-open.log"], 0, "pass 4 events\n"),
+    Run(["check", "--times", "unasked.log"], 1, ASKED),
+    Run(["check", "--times", "good-2.log"], 0, PASS),
+    # (There the moments of the CONNACK and of the first PUBLISH are 2^63 apart.)
+    Run(["check", "--times", "timed.log"], 1, TIMED_FAULT.replace("5", "4") + FAIL.replace("fail 1", "fail 2")),
+    Run(["check", "--summary", "--times", "silent.log"], 1, SILENT_SUMMARY),
+    Run(["check", "--times", "--coverage", "silent.log"], 1, covering_all(SILENT_FAIL, 1, 1, waits=1)),
+    Run(["check", "--coverage", "--times", "in-time.log"], 1, covering_all(FAIL, 2, 0, waits=1)),
+    Run(["check", "--coverage", "--times", "unasked.log"], 1, covering_all(ASKED, 1, 1, waits=0)),
+    Run(["check", "--coverage", "--all", "silent.log"], 1, covering_all(ASKED, 1, 1)),
+    Run(["check", "--times", "--why", "silent.log"], 1, SILENT_REASONED, stdin=GOOD),
+    Run(["check", "--times", "nested.log"], 2, REFUSED, stdin=GOOD),
+    Run(["check", "--times", "missing.log"], 4, errors=missing("missing.log"), stdin=GOOD),
+    Run(["check", "--times", "--why"], 3, errors=NO_FILE_FOR_WHY, stdin=SILENT),
+    Run(["check", "--why", "--coverage", "--times", "silent.log"], 3, errors=TWO_REPORTS),
+    Run(["show", "--faults", "--times", "--around", "0", "silent.log"], 0, SILENT_LINES, stdin=GOOD),
+    Run(["show", "--faults", "--all", "--times", "--around", "0", "silent.log"], 0, SILENT_LINES, stdin=GOOD),
+    Run(["show", "--faults", "--around", "0", "silent.log"], 0, "..\n", stdin=GOOD),
+    Run(["show", "--times", "silent.log"], 3, errors=NO_FAULTS_FOR_ALL),
+    Run(["show", "--all", "--times", "--long"], 3, errors=NO_FAULTS_FOR_ALL, stdin=GOOD),
+    Run(["show", "--times", "--around", "1", "silent.log"], 3, errors=NO_FAULTS),
+    Run(["show", "--times", "--faults"], 3, errors=NO_FILE, stdin=GOOD),
+    Run(["check", "--times", "--times", "good.log"], 3, errors=TWICE.replace("--coverage", "--times")),
     # Only the faults of the statements that a list chooses are reported; one on all of them judges the further ones too.
     Run(["check", "--statements", "S", "faulty.log"], 1, FAIL, stdin=GOOD),
     Run(["check", "--statements", "S01", "twice.log"], 1, FAIL.replace(" 5 events", " 6 events")),
@@ -354,6 +422,16 @@ RUNS = [
     Run(["check", "--statements", "S01", "--why", "faulty.log"], 1, REASONED, stdin=GOOD),
     Run(["check", "--why", "--statements", "A", "unasked.log"], 1, ASKED_REASONED),
     Run(["check", "--why", "--statements", "C", "faulty.log"], 0, "pass 5 events\n"),
+    Run(["check", "--statements", "times", "silent.log"], 1, SILENT_FAIL),
+    Run(["check", "--statements", "all", "silent.log"], 1, ASKED),
+    Run(["check", "--statements", "default,K", "silent.log"], 1, SILENT_ALONE),
+    Run(["check", "--statements", "times,-all", "silent.log"], 1, SILENT_ALONE),
+    Run(["check", "--statements", "K02,S", "silent.log"], 0, "pass 5 events\n"),
+    Run(["check", "--statements", "K,all,-A", "--why", "silent.log"], 1, SILENT_ALONE_REASONED),
+    Run(["check", "--json", "--statements", "K01", "--why", "silent.log"], 1, SILENT_JSON),
+    Run(["check", "--statements", "K,-times", "silent.log"], 3, errors=NO_CHOICE),
+    Run(["check", "--statements", "time", "silent.log"], 3, errors=no_statements("time")),
+    Run(["check", "--statements", "K1", "silent.log"], 3, errors=no_statements("K1")),
     Run(["check", "--statements", "C", "nested.log"], 2, REFUSED, stdin=GOOD),
     Run(["check", "--statements", "C", "missing.log"], 4, errors=missing("missing.log")),
     Run(["check", "--statements", "S,X9", "missing.log"], 3, errors=no_statements("X9")),
@@ -366,6 +444,8 @@ RUNS = [
     Run(["check", "--statements", "é", "--why"], 3, errors=no_statements("é"), stdin=GOOD),
     Run(["check", "--all", "--statements", "W", "good.log"], 3, errors=TWO_CHOICES),
     Run(["check", "--statements", "X9", "--all", "--why", "good.log"], 3, errors=TWO_CHOICES),
+    Run(["check", "--times", "--statements", "W", "good.log"], 3, errors=TWO_CHOICES),
+    Run(["check", "--times", "--statements", "X9", "--all", "good.log"], 3, errors=TWO_CHOICES),
     Run(["check", "--coverage", "--why", "--statements", "X9"], 3, errors=TWO_REPORTS, stdin=GOOD),
     Run(["rules", "--statements", "all,-default"], 0, FURTHER_ROWS),
     Run(["rules", "--statements", "F,V,A"], 0, rows_of("FVA", FURTHER_ROWS)),
@@ -374,6 +454,11 @@ RUNS = [
     Run(["rules", "--statements=-F,X"], 3, errors=no_statements("X")),
     Run(["rules", "--role", "broker", "--statements", "S,-S"], 3, errors=NO_CHOICE),
     Run(["rules", "--all", "--statements", "S"], 3, errors=TWO_CHOICES),
+    Run(["rules", "--statements", "times,-all"], 0, ON_TIMES_ROWS),
+    Run(["rules", "--statements", "K"], 0, ON_TIMES_ROWS),
+    Run(["rules", "--statements", "times,-default"], 0, FURTHER_ROWS + ON_TIMES_ROWS),
+    Run(["rules", "--role", "server", "--statements", "K"], 0, ON_TIMES_ROWS.splitlines(keepends=True)[1]),
+    Run(["rules", "--times", "--statements", "S"], 3, errors=TWO_CHOICES),
     # Without a file, or with `-`, standard input is.
     Run(["check"], 0, PASS, stdin=GOOD),
     Run(["check"], 1, FAIL, stdin=FAULTY),
@@ -398,6 +483,7 @@ RUNS = [
     Run(["show", "--faults", "-"], 3, errors=NO_FILE, stdin=Path("good.log")),
     Run(["show", "--around", "1", "good.log"], 3, errors=NO_FAULTS),
     Run(["show", "--all", "good.log"], 3, errors=NO_FAULTS_FOR_ALL),
+    Run(["show", "--times", "good.log"], 3, errors=NO_FAULTS_FOR_ALL),
     Run(["show", "--faults", "--around", "x", "good.log"], 3, errors="mqjudge: no number x\n"),
     # The file is taken for the number.
     Run(["show", "--faults", "--around", "bad.log"], 3, errors="mqjudge: no number bad.log\n"),
@@ -525,6 +611,7 @@ UNWRITTEN = [
     ["check", "faulty.log"],
     ["check", "--why", "faulty.log"],
     ["check", "--all", "unasked.log"],
+    ["check", "--times", "silent.log"],
     ["check", "nested.log"],
     ["show", "good.log"],
     ["show", "nested.log"],
@@ -537,6 +624,7 @@ UNWRITTEN = [
     ["packet", "41020001"],
     ["rules"],
     ["rules", "--all"],
+    ["rules", "--times"],
     ["explain", "S01"],
     ["explain", "F05"],
     ["--help"],

@@ -5,11 +5,11 @@ should, that the second opinion has the same further statements, in the same wor
 than 80 bytes.
 
 The rows are those of `TABLE` in crates/mq_rules/src/table.rt, and what each statement says is its doc comment in
-crates/mq_rules/src/rule.rt, which is also its sentence in `Rule::sentence` of crates/mq_rules/src/naming.rt. In the
-document the table is between the lines `<!-- rules -->` and `<!-- /rules -->`, and that of the further statements, which are judged on
-request, between `<!-- further -->` and `<!-- /further -->`. If one differs, the first line that does is printed, and the status is 1;
-with --write the tables are written instead. The two pages are the only ones that say how many statements there are: each has to say
-it, and nowhere another number, or the status is 1, with --write too. What is asked of docs/STANDARD.md is in standard_page.py; --write
+crates/mq_rules/src/rule.rt, which is also its sentence in `Rule::sentence` of crates/mq_rules/src/naming.rt. In the document the table
+is between the lines `<!-- rules -->` and `<!-- /rules -->`, and that of the further statements, which are judged on request, those on
+times too, between `<!-- further -->` and `<!-- /further -->`. If one differs, the first line that does is printed, and the status is 1;
+with --write the tables are written instead. The two pages are the only ones that say how many statements there are: each has to say it,
+and nowhere another number, or the status is 1, with --write too. What is asked of docs/STANDARD.md is in standard_page.py; --write
 writes the numbers of its rows into it. Each run without --write first looks whether flaws in it would be found.
 
 usage: bench/rules_table.py [--write]
@@ -31,9 +31,9 @@ COUNTING = (README, DOCUMENT)
 COUNT = re.compile(r"\b(\d+)\s+(?:statements|rules)\b")
 SOURCES = TOP / "crates" / "mq_rules" / "src"
 RULES, FURTHER = "rules", "further"  # the names of the two tables in the document
-ON_REQUEST, WITH_RELEASES = "OnRequest", "WithReleases"
+ON_REQUEST, ON_TIMES, WITH_RELEASES = "OnRequest", "OnTimes", "WithReleases"
 HEAD = ["| Code | A statement of the tested end | Citation for a client | For a server |", "|---|---|---|---|"]
-ROW = re.compile(r'\(\s*(\w+),\s*"(\w+)",\s*(\w+),\s*"([^"]*)",\s*"([^"]*)",\s*(Always|WithReleases|OnRequest),?\s*\)')
+ROW = re.compile(r'\(\s*(\w+),\s*"(\w+)",\s*(\w+),\s*"([^"]*)",\s*"([^"]*)",\s*(Always|WithReleases|OnRequest|OnTimes),?\s*\)')
 SENTENCE = re.compile(r'Rule::(\w+) =>\s*"([^"]*)",')
 VALUE = re.compile(r"((?:^ +///.*\n)+)^ +(\w+),$", re.MULTILINE)
 EXPLANATIONS = TOP / "crates" / "mq_explain" / "src" / "explanations"
@@ -71,12 +71,15 @@ def tables() -> dict[str, str]:
     for name, code, _, client, server, when in rows:
         condition = ", if the log records releases" if when == WITH_RELEASES else ""
         row = f"| {code} | {said[name]}{condition} | {client or '-'} | {server or '-'} |"
-        lines[FURTHER if when == ON_REQUEST else RULES].append(row)
+        lines[FURTHER if when in (ON_REQUEST, ON_TIMES) else RULES].append(row)
     return {name: "\n".join(rows) + "\n" for name, rows in lines.items()}
 
 
 def unlike_further(table: str) -> list[str]:
-    """What the second opinion says otherwise of the further statements."""
+    """What the second opinion says otherwise of the further statements, and of which of them look at times."""
+    timed = tuple(code for _, code, *_, when in ROW.findall((SOURCES / "table.rt").read_text()) if when == ON_TIMES)
+    if timed != further_table.TIMED:
+        return [f"bench/further_table.py has {further_table.TIMED} on times, the program has {timed}"]
     lines = HEAD.copy()
     for code in further_table.JUDGED:
         cited = [further_table.CITATIONS[code].get(role, "-") for role in ("client", "server")]

@@ -3,7 +3,7 @@
 It is a part of rules_table.py, which knows the statements and their citations. Whether a row says the truth of its demand is for its
 reader. What is compared are names and numbers: a statement has a row that it judges; each of its citations has a row that names it; no row
 names a statement that isn't there; and the numbers at the page's top, and those in README.md, are those of its rows. A row is judged
-on request if a further statement judges it, and no other row names one.
+on request if a further statement judges it, with times if that is one on times, and no other row names one.
 
 `unfound` alters the page in many ways, each of which has to be found: it is the self-test of all this.
 """
@@ -12,7 +12,7 @@ from collections import Counter
 from collections.abc import Iterator
 from typing import NamedTuple
 
-from further_table import JUDGED as FURTHER
+from further_table import TIMED, UNTIMED
 
 BEGIN, END = "<!-- counts -->\n", "<!-- /counts -->\n"
 HEAD = ("| Demand | What it asks | Of | Here | By which statements, or why not |", "|---|---|---|---|---|")
@@ -21,10 +21,13 @@ CITATION = re.compile(r"(?:MQTT-\d+\.\d+\.\d+-\d+|sec-\d+(?:\.\d+)*)(?: \?)?")
 NAMED = re.compile(r"MQTT-[\d.]+-\d+|sec-[\d.]*\d")
 CODE = re.compile(r"(?<![\w.])(?:[A-Z]\d\d|E\d[A-Z]|L\d)(?!\w)")
 ENDS = ("client", "server", "both")
-JUDGED, IN_PART, ON_REQUEST, SEE = "judged", "in part", "on request", "see"
-WORDS = (JUDGED, IN_PART, ON_REQUEST, "not yet", "times", "unseen", "nothing")  # those that are counted
-NAMING = (JUDGED, IN_PART, ON_REQUEST, SEE)  # the rows that name statements
-SENTENCE = re.compile(r"Of the (\d+) numbered demands of the standard (\d+) are judged, (\d+) in part, and (\d+) on request")
+JUDGED, IN_PART, ON_REQUEST, WITH_TIMES, SEE = "judged", "in part", "on request", "with times", "see"
+WORDS = (JUDGED, IN_PART, ON_REQUEST, WITH_TIMES, "not yet", "unseen", "nothing")  # those that are counted
+NAMING = (JUDGED, IN_PART, ON_REQUEST, WITH_TIMES, SEE)  # the rows that name statements
+ASKED = {ON_REQUEST: UNTIMED, WITH_TIMES: TIMED}  # the further statements, each of which only such rows name
+SENTENCE = re.compile(
+    r"Of the (\d+) numbered demands of the standard (\d+) are judged, (\d+) in part, (\d+) on request, and (\d+) with times"
+)
 
 Statements = dict[str, set[str]]  # the citations of each, by its code
 
@@ -86,8 +89,9 @@ def wrong_names(page: str, all_rows: list[Row], statements: Statements) -> Itera
     for row in all_rows:
         if (row.here in NAMING) != bool(row.codes):
             yield f"{row.citation} ({row.here}) names {'a' if row.codes else 'no'} statement"
-        if any((code in FURTHER) != (row.here == ON_REQUEST) for code in row.codes):
-            yield f"{row.citation} ({row.here}) names a statement that is judged on request, or isn't"
+        for word, codes in ASKED.items():
+            if any((code in codes) != (row.here == word) for code in row.codes):
+                yield f"{row.citation} ({row.here}) names a statement that is judged {word}, or isn't"
         if row.here == SEE:
             yield from wrong_pointer(row, all_rows)
 
@@ -117,10 +121,10 @@ def wrong_counts(page: str, all_rows: list[Row], readme: str) -> Iterator[str]:
     elif page.partition(BEGIN)[2].partition(END)[0] != counts(all_rows):
         yield "the counts aren't those of the rows: bench/rules_table.py --write writes them"
     numbered = [row.here for row in all_rows if row.is_numbered]
-    right = (str(len(numbered)), *(str(numbered.count(word)) for word in (JUDGED, IN_PART, ON_REQUEST)))
+    right = (str(len(numbered)), *(str(numbered.count(word)) for word in (JUDGED, IN_PART, ON_REQUEST, WITH_TIMES)))
     said = SENTENCE.findall(" ".join(readme.split()))
     if said != [right]:
-        counted = f"of {right[0]}, {right[1]} are, {right[2]} in part, and {right[3]} on request"
+        counted = f"of {right[0]}, {right[1]} are, {right[2]} in part, {right[3]} on request, and {right[4]} with times"
         yield f"README.md has to say once how many demands are judged: {counted}"
 
 
@@ -168,6 +172,8 @@ def flawed(page: str, readme: str, statements: Statements) -> Iterator[tuple[str
         (f"| {JUDGED} | W", f"| {IN_PART} | W", "the counts aren't those of the rows"),
         (f"| {ON_REQUEST} | ", f"| {JUDGED} | ", "names a statement that is judged on request"),
         (f"| {JUDGED} | W", f"| {ON_REQUEST} | W", "names a statement that is judged on request"),
+        (f"| {WITH_TIMES} | ", f"| {ON_REQUEST} | ", "names a statement that is judged with times"),
+        (f"| {ON_REQUEST} | ", f"| {WITH_TIMES} | ", "names a statement that is judged with times"),
         ("| unseen | ", f"| {JUDGED} | ", "names no statement"),
         (there, f"| {SEE} | {astray} |", "which has no row with"),
         (there, f"| {SEE} | {' '.join(pointer.codes)} |", "names no other row"),

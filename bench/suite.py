@@ -4,15 +4,17 @@ and one that keeps it, each with its exact report as text and as JSON.
 
 The logs and their reports are the rows of `tests/statements/suite.rt` of mq_worked, whose tests judge them too: what the row shows, the
 log in words, and the report, with a semicolon between its lines. Those of the further statements that the program judges on request
-are the rows of further_suite.txt: their reports are those of `check --all`. The reports were written from the statements' words before
-any program judged the logs. The two logs of a statement differ in one record, which is changed, added or missing.
+are the rows of further_suite.txt: their reports are those of `check --all`, or of `check --times` if they are on times. The reports were
+written from the statements' words before any program judged the logs. The two logs of a statement differ in one record, which is changed,
+added or missing; on times in its moment.
 
 What each log tests is written by occasions.py, and of a further statement by further.py: each has to test its own statement, also if
 it keeps it.
 
 With --check (or without options) it compares the files with the rows, byte by byte, and the reports with reference.py's. With
---program that program has to give the same reports for the files, as text, as JSON and with what was tested, with the right status. The logs are of
-version 1; each must get the same report converted to version 2 by converting.py. --write makes the files.
+--program that program has to give the same reports for the files, as text, as JSON and with what was tested, with the right status. The
+logs are of version 1; each must get the same report converted to version 2 by converting.py. Those on times are of version 2; as they are
+without moments, in version 1, they must pass. --write makes the files.
 
 usage: bench/suite.py [--check] [--program PATH]
        bench/suite.py --write
@@ -32,14 +34,13 @@ import further_worked
 import occasions
 import on_request
 import reading
-import reference
 import statements
 from check_forms import as_json
 from converting import converted
-from further_table import JUDGED
+from further_table import ALL, ALWAYS, JUDGED, TIMED, TIMES
 from judges import STATUSES
 from shortening import KINDS
-from versions import HEAD_SIZES, HEADER_SIZE, records
+from versions import HEAD_SIZES, HEADER_SIZE, LENGTH_END, in_version_1, records, version_of
 
 HERE = Path(__file__).resolve().parent
 ROWS, FURTHER_ROWS = check_rows.FOLDER / "suite.rt", HERE / "further_suite.txt"
@@ -63,9 +64,9 @@ to the test, and they differ in one record. Each log has its exact report beside
 | `CODE-broken.json`, `CODE-kept.json` | the same as one line of JSON: what `mqjudge check --json FILE` prints |
 | `CODE-broken.places`, `CODE-kept.places` | the report with what was tested: what `mqjudge check --coverage FILE` prints |
 
-B05, F01 to F06, V03, V04, V06, C24, D01 to D03, D05, and A01 to A03 are further statements, which
-are judged only on request: each of these commands has `--all` too, and the reports of these logs are
-what it prints then.
+B05, F01 to F06, V03, V04, V06, C24, D01 to D03, D05, A01 to A03, K01 and K02 are further statements,
+which are judged only on request: each of these commands has `--all` too, and the reports of these
+logs are what it prints then. K01 and K02 are on times: there it has `--times`.
 
 Each broken log has one fault, that of its statement, and each kept log passes. All packets are
 valid, except for the one that breaks a statement on a packet's bytes (W01 to W21), and the one that
@@ -90,6 +91,9 @@ length of the body (four bytes, the most significant first), and the body.
 | `05` | REST | none: the tested end has come to rest, and what it hasn't sent by now it never sends |
 | `06` | RELEASE | a Packet Identifier: the tested end passed on the QoS 2 message that it received under it |
 
+The logs of K01 and K02 have the version `02`: there each record has its moment before the body, in
+eight bytes, the most significant first. Here it is in microseconds since the log's first record.
+
 [docs/LOG_FORMAT.md](../../docs/LOG_FORMAT.md) has all of it.
 
 ## A report
@@ -111,9 +115,9 @@ with one event; the command's page has
 
 ## The logs
 
-Records count from 1. One that is changed is shown as it is in both logs; one that is added is only
-in the broken log; one that is missing is only in the kept log, under this number. "It" is the tested
-end, or what was named before.
+Records count from 1. One that is changed is shown as it is in both logs, with its moment if it has
+one; one that is added is only in the broken log; one that is missing is only in the kept log, under
+this number. "It" is the tested end, or what was named before.
 
 | Code | Tested end | Record that differs | In the broken log; in the kept log |
 |---|---|---|---|
@@ -130,14 +134,13 @@ class Row:
     report: str
 
     @property
-    def options(self) -> list[str]:
-        """The words with which its reports are asked for, beside those of the form."""
-        return ["--all"] if self.code in JUDGED else []
+    def asked(self) -> str:
+        """How its reports are asked for."""
+        return TIMES if self.code in TIMED else ALL if self.code in JUDGED else ALWAYS
 
     def files(self) -> dict[str, bytes]:
         """What is in its files, by their names."""
-        counting = on_request.tested if self.code in JUDGED else occasions.lines
-        tested = occasions.with_lines(self.report, counting(reading.Recording(self.log)))
+        tested = occasions.with_lines(self.report, on_request.tested(reading.Recording(self.log), self.asked))
         texts = {"report": self.report, "json": as_json(self.report), "places": tested}
         name = f"{self.code}-{self.which}"
         return {f"{name}.log": self.log} | {f"{name}.{kind}": text.encode() for kind, text in texts.items()}
@@ -150,7 +153,8 @@ def rows() -> Iterator[Row]:
         head, words, report = (part.strip() for part in line.split("|"))
         first, _, what = head.partition(": ")
         code, which, role = first.replace(",", "").split()
-        yield Row(code, which, role, what, check_rows.log_of(words, names), check_rows.report_of(report))
+        made = further_worked.timed_log if code in TIMED else check_rows.log_of
+        yield Row(code, which, role, what, made(words, names), check_rows.report_of(report))
 
 
 def pairs() -> list[tuple[Row, Row]]:
@@ -174,19 +178,21 @@ def difference(broken: bytes, kept: bytes) -> tuple[int, str] | None:
     return (places[0], how) if places else None
 
 
-def record_text(record: bytes) -> str:
-    return f"`{KINDS[record[0]]} {record[HEAD_SIZES[1] :].hex(' ').upper()}".rstrip() + "`"
+def record_text(record: bytes, version: int) -> str:
+    moment, body = record[LENGTH_END : HEAD_SIZES[version]], record[HEAD_SIZES[version] :]
+    at = f" at {int.from_bytes(moment, 'big')}" if moment else ""
+    return f"`{KINDS[record[0]]} {body.hex(' ').upper()}".rstrip() + f"`{at}"
 
 
 def difference_text(broken: bytes, kept: bytes) -> str:
     number, how = difference(broken, kept) or (0, "")
-    ours, theirs = list(records(broken)), list(records(kept))
+    ours, theirs = ([record_text(record, version_of(log)) for record in records(log)] for log in (broken, kept))
     match how:
         case "changed":
-            return f"{number}: {record_text(ours[number - 1])}, kept {record_text(theirs[number - 1])}"
+            return f"{number}: {ours[number - 1]}, kept {theirs[number - 1]}"
         case "added":
-            return f"{number} is added: {record_text(ours[number - 1])}"
-    return f"{number} is missing: {record_text(theirs[number - 1])}"
+            return f"{number} is added: {ours[number - 1]}"
+    return f"{number} is missing: {theirs[number - 1]}"
 
 
 # ---- the files
@@ -235,14 +241,14 @@ def wrong_pairs() -> Iterator[str]:
 
 def wrong_reports() -> Iterator[str]:
     for row in rows():
-        recording = reading.Recording(row.log)
-        judge = (on_request if row.code in JUDGED else reference).reported
-        if (said := judge(recording)) != row.report:
-            yield f"{row.code} {row.which}: wanted {row.report!r}, {judge.__module__}.py says {said!r}"
-        if (said := judge(reading.Recording(in_second_version(row)))) != row.report:
-            yield f"{row.code} {row.which}, version 2: wanted {row.report!r}, {judge.__module__}.py says {said!r}"
-        if row.code in JUDGED and not (said := reference.reported(recording)).startswith("pass "):
-            yield f"{row.code} {row.which}: without --all it has to pass, reference.py says {said!r}"
+        recording, (other, wanted) = reading.Recording(row.log), in_other_version(row)
+        if (said := on_request.reported(recording, row.asked)) != row.report:
+            yield f"{row.code} {row.which}: wanted {row.report!r}, on_request.py says {said!r}"
+        if (said := on_request.reported(reading.Recording(other), row.asked)) != wanted:
+            yield f"{row.code} {row.which}, in the other version: wanted {wanted!r}, on_request.py says {said!r}"
+        for less in {TIMES: (ALWAYS, ALL), ALL: (ALWAYS,)}.get(row.asked, ()):
+            if not (said := on_request.reported(recording, less)).startswith("pass "):
+                yield f"{row.code} {row.which}: without {row.asked} it has to pass, on_request.py says {said!r}"
         if not on_request.places(occasions.log_of(recording), row.code):
             yield f"{row.code} {row.which}: it doesn't test its statement"
         may_break = row.code[0] == "W" and row.which == BROKEN
@@ -261,28 +267,33 @@ def wrong_files() -> Iterator[str]:
     yield from (f"examples/suite/{name} isn't what the rows say" for name in both if wanted[name] != there[name])
 
 
-def in_second_version(row: Row) -> bytes:
-    """The log of a row in version 2."""
+def in_other_version(row: Row) -> tuple[bytes, str]:
+    """The log of a row in version 2, or if that is its own in version 1, and the report on that: without moments nothing is late."""
+    if version_of(row.log) == 2:
+        return in_version_1(row.log), f"pass {row.report.split()[-2]} events\n"
     made = converted(row.log)
     assert made.refusal is None and made.written[:5] == b"MQTR\x02"
-    return made.written
+    return made.written, row.report
 
 
 def wrong_answers(program: Path) -> Iterator[str]:
-    """The program has to give the reports in the files: for the logs that are there, and for the same in version 2."""
+    """The program has to give the reports in the files: for the logs that are there, and for the same in version 2. Those that are of
+    version 2 themselves pass in version 1."""
     with tempfile.TemporaryDirectory(prefix="mqjudge-suite-") as folder:
-        second = Path(folder) / "second.log"
+        other = Path(folder) / "other.log"
         for row in rows():
             path = FOLDER / f"{row.code}-{row.which}.log"
-            second.write_bytes(in_second_version(row))
-            for log, words, kind in ((log, *form) for log in (path, second) for form in FORMS):
-                command = [program, "check", *row.options, *words, log]
+            data, report = in_other_version(row)
+            other.write_bytes(data)
+            texts = [(path, words, path.with_suffix(f".{kind}").read_text(), row.report) for words, kind in FORMS]
+            others = [(other, words, said, report) for _, words, said, _ in texts] if row.asked != TIMES else [(other, [], report, report)]
+            for log, words, said, its_report in texts + others:
+                command = [program, "check", *([row.asked] if row.asked else []), *words, log]
                 ran = subprocess.run(command, stdin=subprocess.DEVNULL, capture_output=True, check=False)
-                said = path.with_suffix(f".{kind}").read_text()
-                wanted = (STATUSES[row.report.splitlines()[-1].split()[0]], said.encode(), b"")
+                wanted = (STATUSES[its_report.splitlines()[-1].split()[0]], said.encode(), b"")
                 if (ran.returncode, ran.stdout, ran.stderr) != wanted:
-                    name = path.name if log is path else f"{path.name} in version 2"
-                    yield f"{name}, {kind}: wanted {wanted}, {program} says {(ran.returncode, ran.stdout, ran.stderr)}"
+                    name = path.name if log is path else f"{path.name} in the other version"
+                    yield f"{name}, {words}: wanted {wanted}, {program} says {(ran.returncode, ran.stdout, ran.stderr)}"
 
 
 def main() -> int:

@@ -13,6 +13,7 @@ import honest_logs
 import random_logs
 import suite
 from because import evidence, line
+from further_table import TIMES
 from on_request import decided, faults
 from reading import Event, NAMES, RECV, RELEASE, REST, Recording, SENT
 from reference import beginning, fails
@@ -115,9 +116,12 @@ D03 4 event 5
 D05 5 event 8
 A01 5 event 2
 A02 3 event 2
-A03 5 event 2"""
+A03 5 event 2
+K01 4 event 3 numbers 20000000 13500000
+K02 4 event 3 numbers 40000000 20000000"""
 
-# A statement, a log in the words of check_rows.py, and the evidence of all its faults there. The log may have faults of others.
+# A statement, a log in the words of check_rows.py, with moments as in further_rows.txt, and the evidence of all its faults there. The log
+# may have faults of others.
 KEPT = "client OPEN >CONNECT-KEPT <CONNACK"  # a session that may be resumed
 THREE = f"{KEPT} >PUBLISH1:1 >PUBLISH1:2 >PUBLISH1:3"
 AGAIN = "CLOSE OPEN >RECONNECT <CONNACK-RESUMED"  # it is
@@ -269,22 +273,28 @@ A01 | client OPEN >CONNECT-M <CONNACK CLOSE OPEN >CONNECT-M >PINGREQ | 7 event 6
 A02 | client OPEN >CONNECT >CONNECT-M <CONNACK >AUTH >AUTH-M | 5 event 2; 6 event 2
 A02 | server OPEN <PINGREQ <CONNECT >AUTH >CONNACK-M | 4 event 3; 5 event 3
 A03 | client OPEN >CONNECT-M >CONNECT <AUTH-M >AUTH-N CLOSE OPEN >CONNECT-M <CONNACK >AUTH-BARE | 5 event 2; 10 event 8
-A03 | server OPEN <PINGREQ <CONNECT-M >AUTH-N >CONNACK | 4 event 3; 5 event 3"""
+A03 | server OPEN <PINGREQ <CONNECT-M >AUTH-N >CONNACK | 4 event 3; 5 event 3
+K01 | client OPEN >CONNECT-10 @5 >PINGREQ @60 <CONNACK @73.500001 <PINGRESP @80 >PINGREQ <PINGRESP @100 REST >PINGREQ @113.6 CLOSE | 5 event 4 numbers 13500001 13500000; 8 event 6 numbers 20000000 13500000; 10 event 9 numbers 13600000 13500000
+K01 | client OPEN >CONNECT-10 <CONNACK-KEEPS-4 >C00100 @3 >3006000161800078 @10 <PUBLISH0 @11 <PUBLISH0 CLOSE OPEN @12 >CONNECT-10 <CONNACK @100 CLOSE | 6 event 5 numbers 7000000 6000000; 12 event 11 numbers 88000000 13500000
+K02 | server OPEN @50 <CONNECT-10 @80 >CONNACK @80.5 <PINGREQ @101 >PINGRESP @102 >PUBLISH0 @200 <PINGREQ | 5 event 4 numbers 20500000 20000000
+K02 | server OPEN <CONNECT-LONG >CONNACK-KEEPS-2 <C00100 @9 REST <PUBLISH0 @30 CLOSE | 5 event 4 numbers 9000000 8000000; 7 event 6 numbers 21000000 8000000"""
 
 
 # ---- what holds of all evidence
 
 # Statements whose faults always have an event, and those whose faults never have one. Of the others it depends on the log.
 ALWAYS = """C03 C06 C07 C10 C11 C12 C13 C14 C17 C20 C21 C22 C23 S01 S03 S04 S05 S06 E1R E2R E3R E4R E5R E6R E1O E2O E3O E7R L2 L3 B02
-B03 B04 B05 F01 F02 F03 F04 F05 F06 A01 A02 A03 C24 D01 D02 D03 D05""".split()
+B03 B04 B05 F01 F02 F03 F04 F05 F06 A01 A02 A03 C24 D01 D02 D03 D05 K01 K02""".split()
 NEVER = [*(f"W{number:02}" for number in range(1, 22)), *"C01 C02 C04 C05 C09 C16 C18 C19 B01 V03 V04 V06".split()]
 # Those whose event, if there is one, is on the connection of the fault; those which a later REST shows, whose event may come after it.
 HERE = """C03 C06 C07 C10 C11 C12 C13 C14 C15 C17 C20 C21 C22 C23 S03 S05 S07 E1R E2R E3R E4R E5R E6R E1O E2O E3O E7R B03
-B04 B05 F01 F02 F03 F04 F05 F06 A01 A02 A03 C24 D01 D02 D03 D05""".split()
+B04 B05 F01 F02 F03 F04 F05 F06 A01 A02 A03 C24 D01 D02 D03 D05 K01 K02""".split()
 SHOWN_LATER = "S06 E1R E2R E3R E4R E5R E6R C24 D01 D02 D03 D05".split()
 COUNTS = {"C14": 2, "C15": 2, "C16": 1, "C17": 2, "C20": 1, "S05": 2, "S07": 2, "E7R": 2, "B01": 1, "B02": 2, "B03": 2, "B04": 2}
+COUNTS |= {"K01": 2, "K02": 2}
 
-# What the event may be: a packet that was sent (>) or received (<), or a mark; after = one under the Packet Identifier of the fault.
+# What the event may be: a packet that was sent (>) or received (<), or a mark; after = one under the Packet Identifier of the fault. With >
+# or < alone it may be anything that was sent or received.
 EVENTS = """\
 C03 >CONNECT | C06 >CONNACK | C07 <CONNECT | C08 >CONNACK | C10 <CONNECT | C11 >DISCONNECT | C12 >CONNACK | C13 <CONNACK
 C14 <CONNECT <CONNACK | C15 <CONNECT <CONNACK | C17 <CONNACK | C20 >CONNECT | C21 <CONNECT | C22 <CONNECT | C23 >DISCONNECT >CONNACK
@@ -294,8 +304,8 @@ E3A =>PUBREL =<PUBREC <CONNACK >CONNACK | E4A =>PUBCOMP <CONNACK >CONNACK | E5A 
 E1R REST | E2R REST | E3R REST | E4R REST | E5R REST | E6R REST | E1O <PUBLISH | E2O <PUBLISH | E3O <PUBREC | E7R <PINGREQ
 L1 =>PUBREC =>PUBCOMP <CONNACK >CONNACK | L2 =RELEASE | L3 =<PUBLISH | B02 <SUBSCRIBE | B03 =<SUBSCRIBE | B04 =<UNSUBSCRIBE
 B05 =<SUBSCRIBE | F01 <CONNACK | F02 <CONNACK | F03 <CONNACK | F04 <CONNACK | F05 <CONNECT | F06 <CONNECT | A01 >CONNECT | A02 >CONNECT <CONNECT | A03 >CONNECT <CONNECT
-C24 REST | D01 REST | D02 REST | D03 REST | D05 REST"""
-KINDS = {words[0]: words[1:] for words in (one.split() for row in EVENTS.split("\n") for one in row.split("|"))}
+C24 REST | D01 REST | D02 REST | D03 REST | D05 REST | K01 > <CONNACK | K02 < >CONNACK"""
+KINDS = {words[0]: {*words[1:]} for words in (one.split() for row in EVENTS.split("\n") for one in row.split("|"))}
 WAYS = {SENT: ">", RECV: "<"}
 MARKS = {REST: "REST", RELEASE: "RELEASE"}
 
@@ -309,7 +319,7 @@ def is_of_kind(log: Log, k: int, at: int, rule: str) -> bool:
     event = log.event(at)
     name = WAYS[event.kind] + NAMES[type_of(event.item)] if event.kind in WAYS else MARKS.get(event.kind, "")
     is_same = identifier(event) == identifier(log.event(k))
-    return name in KINDS[rule] or (is_same and f"={name}" in KINDS[rule])
+    return bool({name, WAYS.get(event.kind)} & KINDS[rule]) or (is_same and f"={name}" in KINDS[rule])
 
 
 class Laws:
@@ -322,7 +332,7 @@ class Laws:
     def wrong(self, log: Log) -> Iterator[str]:
         self.logs += 1
         draw = random.Random(log.last)
-        for k, rule in faults(log):
+        for k, rule in faults(log, TIMES):
             self.faults += 1
             found, shown = evidence(log, k, rule), decided(log, k, rule)
             self.words.add((rule, found.words, found.kind))
@@ -369,11 +379,12 @@ def worked() -> Iterator[tuple[str, Log, str, str]]:
     names = further_worked.packets()
     for row in ROWS.split("\n"):
         rule, words, rest = (part.strip() for part in row.split("|"))
-        yield row, log_of(check_rows.log_of(words, names)), rule, rest
+        made = further_worked.timed_log if "@" in words else check_rows.log_of
+        yield row, log_of(made(words, names)), rule, rest
 
 
 def wrong_worked(name: str, log: Log, rule: str, text: str, seen: set[tuple[str, ...]]) -> Iterator[str]:
-    at = [k for k, one in faults(log) if one == rule]
+    at = [k for k, one in faults(log, TIMES) if one == rule]
     wanted = [f"because {k} {rule} {rest}" for k, _, rest in (one.strip().partition(" ") for one in text.split(";")) if k]
     found = [evidence(log, k, rule) for k in at]
     seen |= {(rule, one.words, one.kind) for one in found}

@@ -1,8 +1,8 @@
 """Worked logs, with all places of one statement in each, for places.py.
 
 Those of mq_rules_tests are read from its source: there their places are computed from the definitions, in proofs. They have all
-statements but W01 to W21, and the further ones that the program judges on request. The rows here have these, and more of the others;
-they were written from the words.
+statements but W01 to W21, and the further ones that the program judges on request, those on times with moments. The rows here have
+these, and more of the others; they were written from the words.
 
 Their events are written in the words of crates/mq_rules/specs/Worked.antt, each of which is a function here. A packet
 has 10 bytes there, if nothing else is said.
@@ -13,6 +13,8 @@ from dataclasses import dataclass, replace
 from pathlib import Path
 
 import check_rows
+from further_table import ALL, ALWAYS, TIMES
+from further_times import LARGE
 from reading import (
     AUTH, Bad, CLOSE, CONNACK, CONNECT, DISCONNECT, Event, Lost, OPEN, PINGREQ, PINGRESP, PUBACK, PUBCOMP, PUBLISH, PUBREC,
     PUBREL, Packet, RECV, RELEASE, REST, Recording, SENT, SUBACK, SUBSCRIBE, UNSUBACK, UNSUBSCRIBE,
@@ -21,7 +23,9 @@ from sessions import Log
 
 PROVED = Path(__file__).resolve().parent.parent / "crates/mq_rules_tests/src/worked_places.rt"
 PROVED_FAULTS = PROVED.parent / "worked.rt"
-CLAUSE = re.compile(r"ensures (\w+) \{ (?:applying|failing) (\w+) (\w+) \((.*)\) ≡ (.*) \}")
+PROVED_TIMED = PROVED.parent / "worked_times.rt"
+CLAUSE = re.compile(r"ensures (\w+) \{ (applying|failing)(?:_timed)? (\w+) (\w+) \((.*)\) ≡ (.*) \}")
+MOMENT = re.compile(r"\((\d+), ")  # before an event
 TOKEN = re.compile(r"[()]|[^()\s]+")
 CONS, NIL = "∷", "[]"
 
@@ -151,7 +155,8 @@ class Worked:
     rule: str
     log: Log
     places: list[int]
-    is_asked: bool = False  # for the further statements too
+    asked: str = ALWAYS  # for which statements it is asked
+    has_faults: bool = False  # whether the places are those at which it fails
 
 
 # ---- the words of events and packets: of each a function of its arguments
@@ -221,6 +226,8 @@ WORDS: dict[str, Callable] = {
     "Open": lambda: Event(OPEN, 0),
     "Close": lambda: Event(CLOSE, 0),
     "Cut": lambda: Event(CLOSE, 0, unfinished=(b"\x32", b"")),
+    "CutOther": lambda: Event(CLOSE, 0, unfinished=(b"\x82", b"")),
+    "at": lambda moment, event, *of: replace(event(*of) if callable(event) else event, moment=moment),
     "Rest": lambda: Event(REST, 0),
     "Release": lambda i: Event(RELEASE, 0, released=i),
     "sends": sends,
@@ -230,10 +237,13 @@ WORDS: dict[str, Callable] = {
     "gets_bad": lambda first, rule: gets(Bad(rule, 2, bytes([first]))),
     "sends_lost": lambda: sends(Lost(5)),
     "gets_lost": lambda: gets(Lost(5)),
+    "notes.Recv": gets,
+    "items.Bad": lambda first, rule, at, is_large: Bad(rule, at, bytes([first]) * (LARGE + 1 if is_large else 1)),
     "lasting": lambda: connect(True),
     "again": lambda: connect(False),
     "fleeting": lambda: connect(True, None),
     "unnamed": lambda: connect(True, None, named=False),
+    "kept_alive": lambda seconds: replace(connect(True), keep_alive=seconds),
     "with_will": lambda qos, retain: replace(connect(True), will_qos=qos, will_retain=retain),
     "with_method": lambda: replace(connect(True), properties=[METHOD]),
     "asking": lambda problem, response, receive, aliases, size: connect(
@@ -242,6 +252,7 @@ WORDS: dict[str, Callable] = {
     "accepting": lambda: connack(False),
     "resuming": lambda: connack(True),
     "refusing": lambda: connack(False, 0x87),
+    "keeping_alive": lambda seconds: replace(connack(False), properties=[(0x13, seconds)]),
     "limiting": lambda present, receive, aliases, qos, size: connack(
         present, receive=receive, aliases=aliases, qos=qos, size=size
     ),
@@ -288,13 +299,15 @@ WORDS: dict[str, Callable] = {
     "Pingreq": lambda: packet(PINGREQ),
     "Pingresp": lambda: packet(PINGRESP),
 }
-# Whether it is a client, whether it records releases, and whether it is judged by the further statements too.
+# Whether it is a client, whether it records releases, and for which statements it is asked.
 ENDS = {
-    "client": ("client", True, False),
-    "server": ("server", True, False),
-    "client_unrecorded": ("client", False, False),
-    "client_asked": ("client", True, True),
-    "server_asked": ("server", True, True),
+    "client": ("client", True, ALWAYS),
+    "server": ("server", True, ALWAYS),
+    "client_unrecorded": ("client", False, ALWAYS),
+    "client_asked": ("client", True, ALL),
+    "server_asked": ("server", True, ALL),
+    "client_timed": ("client", True, TIMES),
+    "server_timed": ("server", True, TIMES),
 }
 
 # ---- reading what is written in these words
@@ -334,7 +347,7 @@ def argument(tokens: list[str]) -> object:
 
 
 def read(text: str) -> list:
-    found = value(TOKEN.findall(text))
+    found = value(TOKEN.findall(MOMENT.sub(r"(at \1 ", text)))
     assert isinstance(found, list), text
     return found
 
@@ -344,10 +357,11 @@ def proved(source: Path = PROVED, rules: Container[str] | None = None) -> Iterat
     text = source.read_text()
     clauses = CLAUSE.findall(text)
     assert len(clauses) == text.count(" ensures "), "a worked log that can't be read"
-    for name, end, rule, events, places in clauses:
+    for name, word, end, rule, events, places in clauses:
         if rules is None or rule in rules:
-            role, releases, is_asked = ENDS[end]
-            yield Worked(f"{name}, {rule}", rule, Log(read(events), role, releases), sorted(read(places)), is_asked)
+            role, releases, asked = ENDS[end]
+            log = Log(read(events), role, releases)
+            yield Worked(f"{name}, {rule}", rule, log, sorted(read(places)), asked, word == "failing")
 
 
 def worked_gaps() -> Iterator[tuple[str, Log, list[str]]]:

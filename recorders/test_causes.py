@@ -26,6 +26,7 @@ from testing import TOP
 sys.path.append(str(TOP / "bench"))
 import because as second_opinion
 import worked_because
+from further_table import TIMES
 from on_request import faults
 
 OPENING = ["OPEN", 'SENT CONNECT size 15 client "me" clean-start 1 keep-alive 60',
@@ -44,7 +45,7 @@ class Words(unittest.TestCase):
         """Each comes in a worked log."""
         met = set()
         for name, log, *_ in worked_because.worked():
-            for place, code in faults(log):
+            for place, code in faults(log, TIMES):
                 wanted = second_opinion.evidence(log, place, code)
                 key, found = read_because(second_opinion.line(place, code, wanted)) or ((0, ""), Evidence(None))
                 self.assertEqual((key, found), ((place, code), Evidence(wanted.because, wanted.numbers)), name)

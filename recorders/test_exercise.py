@@ -251,7 +251,7 @@ class Table(unittest.TestCase):
         self.assertEqual(aims - binding(True, True), set())
 
     def test_the_further_statements_are_those_of_the_program(self) -> None:
-        known = [one for one in every_statement_of(judge_program()) if one.is_further]
+        known = [one for one in every_statement_of(judge_program()) if one.asked_by == ALL]
         for is_server, end in ((True, SERVER), (False, CLIENT)):
             if known:
                 self.assertEqual({one.code for one in known if one.binds(end)}, FURTHER[is_server])

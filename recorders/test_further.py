@@ -1,5 +1,5 @@
 #!/usr/bin/env python3
-"""Tests of `recorders/judge --all`: logs are judged by the further statements too, and each report says so.
+"""Tests of `recorders/judge --all` and `--times`: logs are judged by further statements too, and each report says so.
 
 A program of a few lines stands for the judge; where the judge knows further statements, it is asked too.
 
@@ -16,33 +16,38 @@ from xml.etree import ElementTree
 sys.dont_write_bytecode = True  # the repository stays as it is
 sys.path.insert(0, str(Path(__file__).resolve().parent))
 from judge_calls import Case as WithStandIn
-from judging.statements import every_statement_of, judges_further
+from judging.statements import TIMES, every_statement_of, judges_further
 from made_logs import log, record
 from sarif_schema import problems
 from testing import TOP, judge_program
 
 STAND_IN = """#!/bin/sh
-# By S01 each log passes. By F05, a further statement, each fails at its third event.
+# By S01 each log passes. By F05, a further statement, each fails at its third event; by K02, on times, at its fourth.
 echo "$*" >> "$0.calls"
-case " $* " in *" --all "*) all=1 ;; *) all= ;; esac
+case " $* " in *" --times "*) all=1 times=1 ;; *" --all "*) all=1 times= ;; *) all= times= ;; esac
 for file; do :; done
 case "$1" in
 check) test -f "$file" || { echo refused 1 Header at 0; exit 2; }
   test "$all" && echo "fault 3 F05 MQTT-3.2.2-12 decided 3 record 3 offset -"
-  case "$*" in
-  *--why*) echo "because 3 F05 event 2" ;;
-  *--coverage*) echo "tested S01 MQTT-2.2.1-4 places 0"
-    test "$all" && echo "tested F05 MQTT-3.2.2-12 places 1"; echo "covered 0 of 1 statements" ;;
+  case "$*" in *--why*) echo "because 3 F05 event 2" ;; esac
+  test "$times" && echo "fault 4 K02 MQTT-3.1.2-22,MQTT-3.2.2-22 decided 4 record 4 offset -"
+  case "$times$*" in
+  1*--why*) echo "because 4 K02 event 3 numbers 21 20" ;;
+  *--coverage*) echo "tested S01 MQTT-2.2.1-4 places 0"; test "$all" && echo "tested F05 MQTT-3.2.2-12 places 1"
+    test "$times" && echo "tested K02 MQTT-3.1.2-22,MQTT-3.2.2-22 places 1"; echo "covered 0 of 1 statements" ;;
   esac
+  test "$times" && echo "fail 2 faults 4 events" && exit 1
   test "$all" && echo "fail 1 faults 4 events" && exit 1
   echo "pass 4 events"; exit 0 ;;
 show) echo "1 record 1 OPEN"; echo '2 record 2 RECV CONNECT size 23 client "c" clean-start 1 keep-alive 60'
   echo "3 record 3 SENT CONNACK size 7 code 0x00 session-present 0 maximum-qos 1"
   case "$*" in *--faults*) test "$all" && echo "  fault F05 MQTT-3.2.2-12 It is refused. (because of event 2)" ;; esac
-  echo "4 record 4 CLOSE"; exit 0 ;;
+  echo "4 record 4 CLOSE"
+  case "$times$*" in 1*--faults*) echo "  fault K02 MQTT-3.1.2-22 It closes. (because of event 3)" ;; esac; exit 0 ;;
 explain) printf '%s server MQTT-3.2.2-12\\nIt is refused.\\n\\nIn a server: Refuse it.\\n' "$2"; exit 0 ;;
 rules) echo "S01 both MQTT-2.2.1-3;MQTT-2.2.1-4 It is so."
-  test "$all" && echo "F05 server MQTT-3.2.2-12 It is refused."; exit 0 ;;
+  test "$all" && echo "F05 server MQTT-3.2.2-12 It is refused."
+  test "$times" && echo "K02 server MQTT-3.1.2-22,MQTT-3.2.2-22 It closes."; exit 0 ;;
 --version) echo "mqjudge 1.2.3 (of a test)"; exit 0 ;;
 esac
 exit 3
@@ -55,6 +60,8 @@ echo "pass 4 events"
 """
 SAID = "judged by the further statements too (--all): F05"
 CAUSE = "the CONNECT, with a Will QoS above the announced maximum"
+SAID_OF_TIMES = "judged by the further statements too (--times): F05, K02"
+LATE = "nothing came from the client for 21 microseconds, and the limit is 20"
 
 
 class Case(WithStandIn):
@@ -130,6 +137,53 @@ class Reports(Case):
         self.assertIn(SAID, printed.splitlines())
 
 
+class Times(Case):
+    """The statements on times, which `--all` leaves out."""
+
+    def test_what_is_printed(self) -> None:
+        for words in (("--times",), ("--all", "--times")):
+            status, printed, errors = self.judged(self.logs, *words)
+            lines = printed.splitlines()
+            self.assertEqual((status, errors), (1, ""))
+            self.assertIn("  K02 MQTT-3.1.2-22,MQTT-3.2.2-22 1 fault: It closes.", lines)
+            self.assertIn(f"      because of event 3: {LATE}", lines)
+            self.assertIn("  F05 MQTT-3.2.2-12 1 fault: It is refused.", lines)
+            self.assertEqual(lines[-2:], [SAID_OF_TIMES, "1 log: 0 pass, 1 fail, 0 refused, 0 failed"])
+
+    def test_it_is_asked_everywhere(self) -> None:
+        self.judged(self.logs, "--times", "--coverage", "--html", self.folder / "page")
+        told = [call for call in self.calls() if call.startswith(("check", "show")) and call.endswith("a.log")]
+        wanted = ["check --coverage --times", "check --why --times", "show --long --faults --around 2 --times"]
+        wanted.append("show --long")
+        self.assertEqual([call.rpartition(" ")[0] for call in told], wanted)
+
+    def test_lines_of_json(self) -> None:
+        (found,) = (json.loads(line) for line in self.judged(self.logs, "--times", "--json")[1].splitlines())
+        self.assertEqual((found["all"], found["times"]), (True, True))
+        wanted = [("F05", []), ("K02", [21, 20])]
+        self.assertEqual([(fault["code"], fault["numbers"]) for fault in found["faults"]], wanted)
+        (found,) = (json.loads(line) for line in self.judged(self.logs, "--all", "--json")[1].splitlines())
+        self.assertNotIn("times", found)
+
+    def test_names(self) -> None:
+        self.assertEqual(self.judged(self.logs, "--times", "--ignore", "f05,k02")[0], 0)
+        why = "K02 is a further statement: nothing is judged by it without --times\n"
+        for words in ((), ("--all",)):
+            status, _, errors = self.judged(self.logs, *words, "--ignore", "K02")
+            self.assertEqual(status, 3)
+            self.assertIn(why, errors)
+        status, printed, _ = self.judged(self.logs, "--times", "--require-coverage", self.named("server K02 2\n"))
+        self.assertIn("not tested: server K02: 1 place, 2 required", printed.splitlines())
+
+    def test_a_program_that_knows_none(self) -> None:
+        self.program.write_text(OLD.replace("--all", "--times"))
+        status, printed, errors = self.judged(self.logs, "--times")
+        self.assertEqual((status, printed), (3, ""))
+        self.assertIn("judges by no statements on times: its check has no --times; build a newer one", errors)
+        self.program.write_text(STAND_IN.replace('echo "$*"', 'case "$*" in *--times*) exit 3 ;; esac; echo "$*"'))
+        self.assertEqual(self.judged(self.logs, "--all", "--ignore", "F05")[0], 0)
+
+
 class Names(Case):
     """Where a code is read: of what doesn't count, of known faults, and of what has to be tested."""
 
@@ -157,8 +211,8 @@ class Names(Case):
 
     def test_which_there_are(self) -> None:
         listed = every_statement_of(str(self.program))
-        wanted = [("S01", "both", False), ("F05", "server", True)]
-        self.assertEqual([(one.code, one.ends, one.is_further) for one in listed], wanted)
+        wanted = [("S01", "both", ""), ("F05", "server", "--all"), ("K02", "server", "--times")]
+        self.assertEqual([(one.code, one.ends, one.asked_by) for one in listed], wanted)
         _, _, errors = self.judged(self.logs, "--all", "--ignore", "F06")
         self.assertIn("there is no statement F06; those with F are F05\n", errors)
         _, _, errors = self.judged(self.logs, "--all", "--require-coverage", self.named("client F05 1\n"))
@@ -184,6 +238,17 @@ class WithTheJudge(WithStandIn):
             self.assertEqual("because of event" in printed, code[0] != "V", printed)
             self.assertEqual((status, self.judged(kept, "--all", program=judge_program())[0]), (1, 0))
             self.assertEqual(self.judged(broken, kept, program=judge_program())[0], 0)
+
+    @unittest.skipUnless(judges_further(judge_program(), TIMES), "the judge knows no statements on times")
+    def test_the_suite_on_times(self) -> None:
+        """The same with `--times`, without which all pass."""
+        for code in ("K01", "K02"):
+            broken, kept = (TOP / f"examples/suite/{code}-{which}.log" for which in ("broken", "kept"))
+            status, printed, _ = self.judged(broken, "--times", program=judge_program())
+            self.assertTrue(any(line.startswith(f"  {code} ") for line in printed.splitlines()), printed)
+            self.assertIn("because of event 3: nothing came from the client for ", printed)
+            self.assertEqual((status, self.judged(kept, "--times", program=judge_program())[0]), (1, 0))
+            self.assertEqual(self.judged(broken, kept, "--all", program=judge_program())[0], 0)
 
 
 if __name__ == "__main__":

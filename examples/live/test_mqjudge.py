@@ -16,7 +16,10 @@ CONNECT = b"\x10\x0d\x00\x04MQTT\x05\x02\x00\x3c\x00\x00\x00"
 CONNACK = b"\x20\x03\x00\x00\x00"
 CHOICES = {
     "W": lambda code: code.startswith("W"),
-    "all,-W,-C": lambda code: code[0] not in "WC",
+    "all,-W,-C": lambda code: code[0] not in "WCK",
+    "times,-W,-C": lambda code: code[0] not in "WC",
+    "K": lambda code: code.startswith("K"),
+    "times,-all": lambda code: code[0] == "K",
     "C02,C02,S": lambda code: code == "C02" or code.startswith("S"),
 }
 SUBSCRIBE = b"\x82\x07\x00\x01\x00\x00\x01a\x00"
@@ -66,6 +69,13 @@ def report(judge: Judge) -> str:
     return "".join(lines) + (f"fail {len(lines)} faults" if lines else "pass") + f" {events} events\n"
 
 
+def chosen_for(path: Path) -> str:
+    """A list of the statements by which a report was made: those of the suite on further ones were made by these too."""
+    code = path.name[:3]
+    is_further = path.parent.name == "suite" and (code[0] in "FVDAK" or code in ("B05", "C24"))
+    return "times" if is_further else "default"
+
+
 class Reports(unittest.TestCase):
     """The reports of the conformance suite, written from the statements' words, and those of recorded sessions."""
 
@@ -74,11 +84,13 @@ class Reports(unittest.TestCase):
         self.assertGreater(len(logs), 148)
         for path in logs:
             log, wanted = path.read_bytes(), path.with_suffix(".report").read_text()
-            with self.subTest(path.name), Judge() as fed, Judge.of(log[5], log[6] == 1) as told:
+            with self.subTest(path.name), Judge(statements=chosen_for(path)) as fed:
                 fed.feed(log)
                 self.assertEqual(report(fed), wanted)
-                tell(told, log)
-                self.assertEqual(report(told), wanted)
+            if log[4] == 1:
+                with self.subTest(path.name), Judge.of(log[5], log[6] == 1, statements=chosen_for(path)) as told:
+                    tell(told, log)
+                    self.assertEqual(report(told), wanted)
 
 
 class Logs(unittest.TestCase):
@@ -242,10 +254,10 @@ class Events(unittest.TestCase):
 
     def test_places_are_those_of_the_suite(self) -> None:
         files = sorted((EXAMPLES / "suite").glob("*.places"))
-        self.assertEqual(len(files), 148)
+        self.assertEqual(len(files), 188)
         for file in files:
             lines = [line.split() for line in file.read_text().splitlines() if line.startswith("tested ")]
-            with self.subTest(file.stem), Judge() as judge:
+            with self.subTest(file.stem), Judge(statements="times") as judge:
                 judge.feed(file.with_suffix(".log").read_bytes())
                 wanted = {words[1]: int(words[-1]) for words in lines}
                 self.assertEqual({code: judge.places(code) for code in wanted}, wanted)
@@ -262,7 +274,7 @@ class Events(unittest.TestCase):
     def test_a_choice_leaves_the_faults_of_its_statements(self) -> None:
         for path in sorted(EXAMPLES.glob("suite/*.log")):
             log = path.read_bytes()
-            with Judge(statements="all") as judge:
+            with Judge(statements="times") as judge:
                 judge.feed(log)
                 faults, told = judge.faults(), judge.new_faults()
             for statements, chosen in CHOICES.items():
@@ -324,7 +336,7 @@ class Misuse(unittest.TestCase):
             self.assertEqual(self.answers("begin", judge, 0, 2), "refused")
             self.assertEqual(self.answers("new", judge, 0), "held")
             with self.assertRaises(Trouble):
-                judge.text("code", 92)
+                judge.text("code", 94)
             with self.assertRaises(Trouble):
                 judge.text("citation", 0, 2)
 

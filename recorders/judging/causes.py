@@ -66,6 +66,7 @@ WORDS = (  # of statements: what the event is, with its numbers; and what is sai
     ("A01", "the CONNECT, with an Authentication Method, and no CONNACK before", ""),
     ("A02", "the CONNECT, without an Authentication Method", ""),
     ("A03", "the CONNECT, whose Authentication Method it must have", ""),
+    ("K01 K02", "nothing came from the client for {0} microseconds, and the limit is {1}", ""),
 )
 CASES = {code: (event, none) for codes, event, none in WORDS for code in codes.split()}
 OF_EVENTS = {"S05"}  # the numbers are positions

@@ -16,6 +16,7 @@ def json_line(verdict: Verdict) -> str:
         "end": verdict.end,
         "events": verdict.events,
         "all": True if verdict.is_of_all else None,
+        "times": True if verdict.is_of_times else None,
         "has-rest": verdict.has_rest,
         "judged-bytes": verdict.whole,
     }

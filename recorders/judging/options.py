@@ -14,7 +14,7 @@ from judging.places import place_of
 from judging.policy import Policy, PolicyError, read_expected
 from judging.refusals import REFUSALS
 from judging.reports import Places
-from judging.statements import ALL, BOTH, CODE, Statement, counts_places, every_statement_of, judges_further
+from judging.statements import ALL, BOTH, CODE, TIMES, Statement, counts_places, every_statement_of, judges_further
 from judging.verdict import one_line
 
 REPOSITORY = Path(__file__).resolve().parent.parent.parent
@@ -46,6 +46,7 @@ def arguments() -> Parser:
     parser.add_argument("--allow-refused", type=words_of, default=frozenset(), metavar="NUMBER,..",
                         help="refusals that don't count")
     parser.add_argument(ALL, action="store_true", help="judge by the further statements too")
+    parser.add_argument(TIMES, action="store_true", help="judge by those on times too: moments are microseconds")
     parser.add_argument("--coverage", action="store_true", help="say how often the logs test each statement")
     parser.add_argument("--require-coverage", type=Path, metavar="FILE",
                         help="what they have to test, in lines END CODE PLACES")
@@ -54,11 +55,11 @@ def arguments() -> Parser:
     return parser
 
 
-def unknown_code(code: str, statements: list[Statement], with_all: bool) -> str:
+def unknown_code(code: str, statements: list[Statement], asked: str) -> str:
     """Why nothing is judged by a code, with those that are meant perhaps; empty if it is. A program may list none."""
-    codes = [statement.code for statement in statements if with_all or not statement.is_further]
-    if code not in codes and any(statement.code == code for statement in statements):
-        return f"{code} is a further statement: nothing is judged by it without {ALL}"
+    codes = [statement.code for statement in statements if statement.is_judged(asked)]
+    if code not in codes and (unasked := [one.asked_by for one in statements if one.code == code]):
+        return f"{code} is a further statement: nothing is judged by it without {unasked[0]}"
     if code in codes or (not codes and CODE.fullmatch(code)):
         return ""
     text = f"there is no statement {one_line(code)}"
@@ -91,7 +92,7 @@ def check_names(
     for known in expected.lines if expected else ():
         named.add((known.code, f"--expect: {options.expect}, line {known.line}"))
     for code, option in sorted(named):
-        if why := unknown_code(code, statements, options.all):
+        if why := unknown_code(code, statements, options.further):
             parser.error(f"{option}: {why}")
 
 
@@ -99,7 +100,7 @@ def check_required(parser: Parser, options: argparse.Namespace, statements: list
     """Refuses requirements on statements that don't exist, or that the end isn't judged by."""
     demand = options.demand
     for one in demand.required:
-        if why := unknown_code(one.code, statements, options.all) or unbound(one.end, one.code, statements):
+        if why := unknown_code(one.code, statements, options.further) or unbound(one.end, one.code, statements):
             parser.error(f"--require-coverage: {one_line(demand.file)}, line {one.line}: {why}")
 
 
@@ -118,17 +119,20 @@ def check_coverage(parser: Parser, options: argparse.Namespace) -> None:
                      " its check has no --coverage; build a newer one")
 
 
-def check_all(parser: Parser, options: argparse.Namespace) -> None:
-    """Refuses a program that knows no further statements, if they are asked for."""
-    if options.all and not judges_further(options.program):
-        parser.error(f"{ALL}: {one_line(options.shown_program)} judges by no further statements:"
-                     f" its check has no {ALL}; build a newer one")
+def check_further(parser: Parser, options: argparse.Namespace) -> None:
+    """Sets by which option the further statements are asked for. Refuses a program that doesn't know it."""
+    options.further = TIMES if options.times else ALL if options.all else ""
+    if options.further and not judges_further(options.program, options.further):
+        which = "statements on times" if options.times else "further statements"
+        parser.error(f"{options.further}: {one_line(options.shown_program)} judges by no {which}:"
+                     f" its check has no {options.further}; build a newer one")
 
 
 def asked_line(options: argparse.Namespace) -> str:
     """What is said of the further statements in reports; empty if they weren't asked for."""
-    codes = [statement.code for statement in options.statements if statement.is_further]
-    return f"judged by the further statements too ({ALL}): {', '.join(codes)}" if options.all else ""
+    codes = [one.code for one in options.statements if one.is_further and one.is_judged(options.further)]
+    said = f"judged by the further statements too ({options.further}): {', '.join(codes)}"
+    return said if options.further else ""
 
 
 def as_typed(program: str) -> str:
@@ -161,10 +165,10 @@ def parse() -> tuple[argparse.Namespace, Policy]:
         required = read_required(options.require_coverage) if options.require_coverage else ()
     except PolicyError as error:
         parser.error(str(error))
-    check_all(parser, options)
+    check_further(parser, options)
     check_coverage(parser, options)
     options.demand = Demand(options.require_coverage, required, options.min_coverage or 0)
-    is_listed = bool(options.all or options.coverage or options.ignore or expected)
+    is_listed = bool(options.further or options.coverage or options.ignore or expected)
     options.statements = every_statement_of(options.program) if is_listed else []
     options.asked = asked_line(options)
     check_names(parser, options, expected, options.statements)

@@ -18,7 +18,7 @@ from judging.excerpt import AROUND, GAP, sentence_in
 from judging.looking import look_at
 from judging.places import what_else
 from judging.resends import TAKEN, Resends
-from judging.statements import ALL
+from judging.statements import ALL, TIMES
 from judging.story import Teller, choose, end_of, is_brief
 from judging.texts import mark_texts
 from judging.verdict import FAILED, FAULTS, REFUSED, TOO_SHORT, Verdict, show
@@ -42,16 +42,16 @@ class Judge:
 
     def __init__(
         self, program: str, most: int, weigh: Callable[[Verdict], None], keeps: bool = False, tells: bool = False,
-        covers: bool = False, is_of_all: bool = False,
+        covers: bool = False, is_of_all: bool = False, is_of_times: bool = False,
     ) -> None:
         """Of each log at most so many lines are kept; and each fault, and a story of what happened, if it is wanted.
 
-        So is how often each statement was tested, and whether logs are judged by the further statements too. The
-        program has to know the options for both.
+        So is how often each statement was tested, and whether logs are judged by the further statements too, or even
+        by those on times. The program has to know the options for that.
         """
         self._program, self._most, self._weigh = program, most, weigh
         self._keeps, self._tells, self._covers = keeps, tells, covers
-        self._all = [ALL] if is_of_all else []
+        self._all = [TIMES] if is_of_times else [ALL] if is_of_all else []
         self._says_why = True  # until the program doesn't know that option
         self._running: set[subprocess.Popen[bytes]] = set()
         self._lock = threading.Lock()  # for what runs
@@ -133,7 +133,7 @@ class Judge:
 
     def _ask(self, path: Path, log: Path) -> Verdict:
         """What the program says of a log, under the name that it has. It has failed where it ends oddly."""
-        verdict = Verdict(path, keeps=self._keeps, is_of_all=bool(self._all))
+        verdict = Verdict(path, keeps=self._keeps, is_of_all=bool(self._all), is_of_times=TIMES in self._all)
         words = ["check", *(["--coverage"] if self._covers else []), *self._all]
 
         def take(line: str) -> None:

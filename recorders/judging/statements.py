@@ -9,7 +9,8 @@ CLIENT, SERVER = "client", "server"
 ENDS = (CLIENT, SERVER)
 BOTH = "both"
 CODE = re.compile("[A-Z][0-9A-Z]{1,3}")
-ALL = "--all"  # the option that asks for the further statements too
+# The options that ask for the further statements too: for those that need no times, and for all.
+ALL, TIMES = "--all", "--times"
 SECONDS = 60
 
 
@@ -20,7 +21,15 @@ class Statement:
     code: str
     ends: str  # which it binds: client, server or both
     sentence: str = ""
-    is_further: bool = False  # it is judged only with `--all`
+    asked_by: str = ""  # the option without which it isn't judged; none of one that always is
+
+    @property
+    def is_further(self) -> bool:
+        return bool(self.asked_by)
+
+    def is_judged(self, asked: str) -> bool:
+        """Whether it is judged if the further statements are asked for by this option, or by none."""
+        return self.asked_by in {TIMES: ("", ALL, TIMES), ALL: ("", ALL)}.get(asked, ("",))
 
     def binds(self, end: str) -> bool:
         return self.ends in (end, BOTH)
@@ -40,19 +49,20 @@ def statements_of(program: str, *words: str) -> list[Statement]:
 
 
 def every_statement_of(program: str) -> list[Statement]:
-    """The same, and after them the further ones, if the program knows any."""
-    always = statements_of(program)
-    codes = {one.code for one in always}
-    further = [one for one in statements_of(program, ALL) if one.code not in codes] if always else []
-    return always + [replace(one, is_further=True) for one in further]
+    """The same, and after them the further ones, if the program knows any, those on times last."""
+    found = statements_of(program)
+    for option in (ALL, TIMES) if found else ():
+        codes = {one.code for one in found}
+        found += [replace(one, asked_by=option) for one in statements_of(program, option) if one.code not in codes]
+    return found
 
 
 def counts_places(program: str) -> bool:
     return knows(program, "--coverage")
 
 
-def judges_further(program: str) -> bool:
-    return knows(program, ALL)
+def judges_further(program: str, option: str = ALL) -> bool:
+    return knows(program, option)
 
 
 def knows(program: str, option: str) -> bool:

@@ -111,6 +111,7 @@ class Verdict:
     resent: dict[int, int] = field(default_factory=dict)  # of PUBLISHes under an identifier in use: which each repeats
     keeps: bool = False  # whether each fault is kept, for a report that names all
     is_of_all: bool = False  # whether it is on the further statements too
+    is_of_times: bool = False  # and whether on those on times
     found: list[Fault] = field(default_factory=list)  # all faults, where they are kept
     overlooked: dict[str, str] = field(default_factory=dict)  # the codes that are ignored, and by which option
     end: str = ""  # which end is tested, where that is to be shown
