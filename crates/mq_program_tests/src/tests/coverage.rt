@@ -7,7 +7,9 @@ use std::test::Fail;
 // The code and the citation of each statement on a client whose log has releases, and at how many
 // events it is put to the test in `GOOD` and in `FAULTY`. Bytes that break a rule put only that one
 // to the test.
-static PLACES: [(&str, &str, u32, u32); 53] = [
+type Place = (&'static str, &'static str, u32, u32);
+
+static PLACES: [Place; 53] = [
     ("W01", "MQTT-2.1.3-1", 1, 1),
     ("W02", "sec-2.1.2", 2, 1),
     ("W03", "MQTT-1.5.5-1", 2, 1),
@@ -79,9 +81,9 @@ static BROKEN_OFF: &[u8] = b"MQTR\x01\x00\x00\x00\
     \x04\x00\x00\x00\x00";
 
 // The lines on what these two put to the test: nothing.
-fn untested_lines(alloc: Global) -> Result<String, Fail> {
+fn untested_lines(alloc: Global, places: &[Place]) -> Result<String, Fail> {
     let mut text = String::new(alloc);
-    for (code, citation, _, _) in PLACES {
+    for (code, citation, _, _) in places {
         if !code.starts_with("L") {
             write!(text, "tested {code} {citation} places 0\n")?;
         }
@@ -90,138 +92,163 @@ fn untested_lines(alloc: Global) -> Result<String, Fail> {
 }
 
 // The lines on what `GOOD` puts to the test, or `FAULTY`.
-fn tested_lines(alloc: Global, is_faulty: bool) -> Result<String, Fail> {
+fn tested_lines(alloc: Global, places: &[Place], is_faulty: bool) -> Result<String, Fail> {
     let mut text = String::new(alloc);
-    for (code, citation, in_good, in_faulty) in PLACES {
-        let places = if is_faulty { in_faulty } else { in_good };
-        write!(text, "tested {code} {citation} places {places}\n")?;
+    for (code, citation, in_good, in_faulty) in places {
+        let count = if is_faulty { *in_faulty } else { *in_good };
+        write!(text, "tested {code} {citation} places {count}\n")?;
     }
     Ok(text)
 }
 
 // The same for `FAULTY` as JSON.
-fn tested_as_json(alloc: Global) -> Result<String, Fail> {
+fn tested_as_json(alloc: Global, places: &[Place]) -> Result<String, Fail> {
     let mut text = String::new(alloc);
-    for (code, citation, _, places) in PLACES {
+    for (code, citation, _, count) in places {
         text.push_str(if text.is_empty() { "[" } else { "," })?;
         write!(
             text,
-            "{{\"citation\":\"{citation}\",\"code\":\"{code}\",\"places\":{places}}}"
+            "{{\"citation\":\"{citation}\",\"code\":\"{code}\",\"places\":{count}}}"
         )?;
     }
     text.push_str("]")?;
     Ok(text)
 }
 
+// Whether the program writes this, with this status, for these words and this log.
+fn writes(
+    alloc: Global,
+    words: &'static [&'static str],
+    log: &'static [u8],
+    status: u8,
+    written: &str,
+) -> bool {
+    let mut desk = Desk::of(alloc, words, log, b"");
+    does(&mut desk, status, written, "")
+}
+
+const COVERAGE: &[&str] = &["mqjudge", "check", "--coverage", "a.log"];
+
+const SUMMARY: &[&str] = &["mqjudge", "check", "--coverage", "--summary", "a.log"];
+
+// Whether what is tested is said before a pass.
+fn is_pass_covered(alloc: Global) -> Result<bool, Fail> {
+    let mut text = tested_lines(alloc, &PLACES, false)?;
+    text.push_str("covered 15 of 53 statements\nunjudged answers no-rest\npass 4 events\n")?;
+    Ok(writes(alloc, COVERAGE, GOOD, 0, text.as_str()))
+}
+
 #[test]
 fn says_what_was_tested_before_a_pass(rt: HostRuntime) -> Result<(), Fail> {
-    let mut text = tested_lines(rt.alloc(), false)?;
-    text.push_str("covered 15 of 53 statements\nunjudged answers no-rest\npass 4 events\n")?;
-    let words = &["mqjudge", "check", "--coverage", "a.log"];
-    let mut desk = Desk::of(rt.alloc(), words, GOOD, b"");
-    assert!(rt; does(&mut desk, 0, text.as_str(), ""));
+    assert!(rt; is_pass_covered(rt.alloc())?);
     Ok(())
+}
+
+// Whether it is said what isn't judged of a log that puts nothing to the test.
+fn is_untested(
+    alloc: Global,
+    words: &'static [&'static str],
+    log: &'static [u8],
+    unjudged: &str,
+) -> Result<bool, Fail> {
+    let mut text = untested_lines(alloc, &PLACES)?;
+    text.push_str(unjudged)?;
+    Ok(writes(alloc, words, log, 0, text.as_str()))
 }
 
 #[test]
 fn says_what_was_not_judged(rt: HostRuntime) -> Result<(), Fail> {
-    let mut text = untested_lines(rt.alloc())?;
-    text.push_str(
-        "covered 0 of 50 statements\n\
+    let unjudged = "covered 0 of 50 statements\n\
         unjudged received lost event 2 record 2\n\
         unjudged sent unfinished CONNECT bytes 1\n\
         unjudged session undecided event 1 record 1\n\
         unjudged answers no-rest\n\
         unjudged L1 L2 L3 no-releases\n\
-        pass 2 events\n",
-    )?;
-    let words: [&[&str]; 2] = [
-        &["mqjudge", "check", "--coverage", "a.log"],
-        &["mqjudge", "check", "--coverage", "--summary", "a.log"],
-    ];
-    for words in words {
-        let mut desk = Desk::of(rt.alloc(), words, GIVEN_UP, b"");
-        assert!(rt; does(&mut desk, 0, text.as_str(), ""), "{words:?}");
-    }
+        pass 2 events\n";
+    assert!(rt;
+        is_untested(rt.alloc(), COVERAGE, GIVEN_UP, unjudged)?,
+        "lines"
+    );
+    assert!(rt;
+        is_untested(rt.alloc(), SUMMARY, GIVEN_UP, unjudged)?,
+        "summary"
+    );
     Ok(())
 }
 
 #[test]
 fn says_what_a_close_dropped(rt: HostRuntime) -> Result<(), Fail> {
-    let mut text = untested_lines(rt.alloc())?;
-    text.push_str(
-        "covered 0 of 50 statements\n\
+    let unjudged = "covered 0 of 50 statements\n\
         unjudged sent unfinished CONNECT bytes 1 event 2 record 4\n\
         unjudged received unfinished CONNACK bytes 2 event 2 record 4\n\
         unjudged answers no-rest\n\
         unjudged L1 L2 L3 no-releases\n\
-        pass 2 events\n",
-    )?;
-    let words = &["mqjudge", "check", "--coverage", "a.log"];
-    let mut desk = Desk::of(rt.alloc(), words, BROKEN_OFF, b"");
-    assert!(rt; does(&mut desk, 0, text.as_str(), ""));
+        pass 2 events\n";
+    assert!(rt; is_untested(rt.alloc(), COVERAGE, BROKEN_OFF, unjudged)?);
     Ok(())
+}
+
+// Whether what `FAULTY` tests is said after this text.
+fn is_fail_covered(
+    alloc: Global,
+    words: &'static [&'static str],
+    faults: &str,
+) -> Result<bool, Fail> {
+    let lines = tested_lines(alloc, &PLACES, true)?;
+    let mut text = String::from_str(alloc, faults)?;
+    text.push_str(lines.as_str())?;
+    text.push_str(
+        "covered 12 of 53 statements\nunjudged answers no-rest\nfail 1 faults 4 events\n",
+    )?;
+    Ok(writes(alloc, words, FAULTY, 1, text.as_str()))
 }
 
 #[test]
 fn says_what_was_tested_after_the_faults(rt: HostRuntime) -> Result<(), Fail> {
-    let mut text = String::from_str(
-        rt.alloc(),
-        "fault 4 W09 sec-2.2.1 decided 4 record 4 offset 5\n",
-    )?;
-    text.push_str(tested_lines(rt.alloc(), true)?.as_str())?;
-    text.push_str(
-        "covered 12 of 53 statements\nunjudged answers no-rest\nfail 1 faults 4 events\n",
-    )?;
-    let words = &["mqjudge", "check", "--coverage", "a.log"];
-    let mut desk = Desk::of(rt.alloc(), words, FAULTY, b"");
-    assert!(rt; does(&mut desk, 1, text.as_str(), ""));
+    let faults = "fault 4 W09 sec-2.2.1 decided 4 record 4 offset 5\n";
+    assert!(rt; is_fail_covered(rt.alloc(), COVERAGE, faults)?);
     Ok(())
 }
 
 #[test]
 fn says_what_was_tested_after_a_summary(rt: HostRuntime) -> Result<(), Fail> {
-    let mut text = String::from_str(rt.alloc(), "W09 sec-2.2.1 faults 1 first 4 record 4\n")?;
-    text.push_str(tested_lines(rt.alloc(), true)?.as_str())?;
-    text.push_str(
-        "covered 12 of 53 statements\nunjudged answers no-rest\nfail 1 faults 4 events\n",
-    )?;
     let words = &["mqjudge", "check", "--summary", "--coverage", "a.log"];
-    let mut desk = Desk::of(rt.alloc(), words, FAULTY, b"");
-    assert!(rt; does(&mut desk, 1, text.as_str(), ""));
+    let faults = "W09 sec-2.2.1 faults 1 first 4 record 4\n";
+    assert!(rt; is_fail_covered(rt.alloc(), words, faults)?);
     Ok(())
 }
 
-#[test]
-fn says_what_was_tested_as_json(rt: HostRuntime) -> Result<(), Fail> {
-    let mut text = String::from_str(rt.alloc(), "{\"coverage\":")?;
-    text.push_str(tested_as_json(rt.alloc())?.as_str())?;
+// Whether what `FAULTY` tests is said as JSON.
+fn is_json_covered(alloc: Global, words: &'static [&'static str]) -> Result<bool, Fail> {
+    let tested = tested_as_json(alloc, &PLACES)?;
+    let mut text = String::from_str(alloc, "{\"coverage\":")?;
+    text.push_str(tested.as_str())?;
     text.push_str(
         ",\"events\":4,\"faults\":[{\"citation\":\"sec-2.2.1\",\"code\":\"W09\",\"decided\":4,\
         \"offset\":5,\"position\":4,\"record\":4}],\
         \"unjudged\":[{\"what\":\"answers\",\"why\":\"no-rest\"}],\"verdict\":\"fail\"}\n",
     )?;
-    let words: [&[&str]; 2] = [
-        &["mqjudge", "check", "--coverage", "--json", "a.log"],
-        &[
-            "mqjudge",
-            "check",
-            "--json",
-            "--summary",
-            "--coverage",
-            "a.log",
-        ],
+    Ok(writes(alloc, words, FAULTY, 1, text.as_str()))
+}
+
+#[test]
+fn says_what_was_tested_as_json(rt: HostRuntime) -> Result<(), Fail> {
+    let words = &["mqjudge", "check", "--coverage", "--json", "a.log"];
+    assert!(rt; is_json_covered(rt.alloc(), words)?, "without a summary");
+    let both = &[
+        "mqjudge",
+        "check",
+        "--json",
+        "--summary",
+        "--coverage",
+        "a.log",
     ];
-    for words in words {
-        let mut desk = Desk::of(rt.alloc(), words, FAULTY, b"");
-        assert!(rt; does(&mut desk, 1, text.as_str(), ""), "{words:?}");
-    }
+    assert!(rt; is_json_covered(rt.alloc(), both)?, "with a summary");
     Ok(())
 }
 
 #[test]
 fn says_nothing_of_what_a_refused_log_tests(rt: HostRuntime) {
-    let words = &["mqjudge", "check", "--coverage", "a.log"];
-    let mut desk = Desk::of(rt.alloc(), words, NESTED, b"");
-    assert!(rt; does(&mut desk, 2, "refused 7 Nested at 13\n", ""));
+    let refused = "refused 7 Nested at 13\n";
+    assert!(rt; writes(rt.alloc(), COVERAGE, NESTED, 2, refused));
 }

@@ -3,6 +3,7 @@ use mq_host::{Outlet, Trouble};
 use mq_tasks::run;
 use mq_tasks_harness::{Desk, FAULTY, GOOD, NESTED};
 use std::alloc::Global;
+use std::process::Abort;
 
 const PASS: &str = "pass 4 events\n";
 
@@ -658,35 +659,49 @@ fn does(desk: &mut Desk, row: &Row) -> bool {
         && error.as_slice() == row.error.as_bytes()
 }
 
+// Whether it does on a host that gives what the row has.
+fn is_row_done(alloc: Global, row: &Row) -> bool {
+    let mut desk = desk_of(alloc, row);
+    does(&mut desk, row)
+}
+
+// Asserts that it does for each row.
+fn assert_rows(rt: &(impl Abort + AllocGlobal), rows: &[Row]) {
+    for row in rows {
+        assert!(rt; is_row_done(rt.alloc(), row), "{:?}", row.words);
+    }
+}
+
 #[test]
 fn does_what_the_words_ask_for(rt: HostRuntime) {
-    for row in &ROWS {
-        let mut desk = desk_of(rt.alloc(), row);
-        assert!(rt; does(&mut desk, row), "{:?}", row.words);
-    }
+    assert_rows(&rt, &ROWS);
 }
 
 #[test]
 fn shows_the_faults_that_the_words_ask_for(rt: HostRuntime) {
-    for row in &REVIEWS {
-        let mut desk = desk_of(rt.alloc(), row);
-        assert!(rt; does(&mut desk, row), "{:?}", row.words);
-    }
+    assert_rows(&rt, &REVIEWS);
 }
 
 #[test]
 fn says_why_if_the_words_ask_for_it(rt: HostRuntime) {
-    for row in &INQUIRIES {
-        let mut desk = desk_of(rt.alloc(), row);
-        assert!(rt; does(&mut desk, row), "{:?}", row.words);
+    assert_rows(&rt, &INQUIRIES);
+}
+
+// Whether it does on a host that fails for want of memory.
+fn is_failure_named(alloc: Global, row: &Row) -> bool {
+    let mut desk = desk_of(alloc, row);
+    desk.trouble = Trouble::Memory;
+    does(&mut desk, row)
+}
+
+// Asserts that it does for each row.
+fn assert_failures(rt: &(impl Abort + AllocGlobal), rows: &[Row]) {
+    for row in rows {
+        assert!(rt; is_failure_named(rt.alloc(), row), "{:?}", row.words);
     }
 }
 
 #[test]
 fn names_what_the_host_failed_at(rt: HostRuntime) {
-    for row in &UNREADABLE {
-        let mut desk = desk_of(rt.alloc(), row);
-        desk.trouble = Trouble::Memory;
-        assert!(rt; does(&mut desk, row), "{:?}", row.words);
-    }
+    assert_failures(&rt, &UNREADABLE);
 }

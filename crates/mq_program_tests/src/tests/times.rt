@@ -1,5 +1,7 @@
 //! The statements on times, and the option that asks for them.
 use mq_tasks_harness::{Desk, GOOD, does};
+use std::alloc::Global;
+use std::process::Abort;
 
 // A client with a Keep Alive of a second, whose PINGREQ comes 2.9 seconds after the CONNACK.
 const SILENT: &[u8] = b"MQTR\x02\x00\x01\x00\
@@ -86,12 +88,31 @@ static CHECKS: [Judged; 10] = [
     ),
 ];
 
+// Whether the program does this with these words and this log, and says nothing.
+fn is_done(
+    alloc: Global,
+    words: &'static [&'static str],
+    log: &'static [u8],
+    status: u8,
+    written: &str,
+) -> bool {
+    let mut desk = Desk::of(alloc, words, log, GOOD);
+    does(&mut desk, status, written, "")
+}
+
+// Asserts that it does for each row.
+fn assert_rows(rt: &(impl Abort + AllocGlobal), rows: &[Judged]) {
+    for (words, log, status, written) in rows {
+        assert!(rt;
+            is_done(rt.alloc(), *words, *log, *status, written),
+            "{words:?}"
+        );
+    }
+}
+
 #[test]
 fn judges_by_times_if_the_words_ask_for_it(rt: HostRuntime) {
-    for (words, log, status, written) in &CHECKS {
-        let mut desk = Desk::of(rt.alloc(), words, log, GOOD);
-        assert!(rt; does(&mut desk, *status, written, ""), "{words:?}");
-    }
+    assert_rows(&rt, &CHECKS);
 }
 
 static SHOWS: [Judged; 4] = [
@@ -113,10 +134,7 @@ static SHOWS: [Judged; 4] = [
 
 #[test]
 fn shows_what_is_late_if_the_words_ask_for_it(rt: HostRuntime) {
-    for (words, log, status, written) in &SHOWS {
-        let mut desk = Desk::of(rt.alloc(), words, log, GOOD);
-        assert!(rt; does(&mut desk, *status, written, ""), "{words:?}");
-    }
+    assert_rows(&rt, &SHOWS);
 }
 
 const TWO_CHOICES: &str =
@@ -125,7 +143,9 @@ const TWO_CHOICES: &str =
 const NO_FAULTS: &str = "mqjudge: --all and --times need --faults\n";
 
 // Words that are refused, and what is said.
-static MISUSES: [(&[&str], &str); 6] = [
+type Misused = (&'static [&'static str], &'static str);
+
+static MISUSES: [Misused; 6] = [
     (
         &["mqjudge", "check", "--times", "--statements", "W", "a.log"],
         TWO_CHOICES,
@@ -154,10 +174,20 @@ static MISUSES: [(&[&str], &str); 6] = [
     ),
 ];
 
+// Whether these are, with a log that could be judged by times.
+fn is_misuse(alloc: Global, words: &'static [&'static str], said: &str) -> bool {
+    let mut desk = Desk::of(alloc, words, SILENT, GOOD);
+    does(&mut desk, 3, "", said)
+}
+
+// Asserts that the words of each row are.
+fn assert_misuses(rt: &(impl Abort + AllocGlobal), rows: &[Misused]) {
+    for (words, said) in rows {
+        assert!(rt; is_misuse(rt.alloc(), *words, said), "{words:?}");
+    }
+}
+
 #[test]
 fn refuses_times_where_all_is_refused(rt: HostRuntime) {
-    for (words, said) in &MISUSES {
-        let mut desk = Desk::of(rt.alloc(), words, SILENT, GOOD);
-        assert!(rt; does(&mut desk, 3, "", said), "{words:?}");
-    }
+    assert_misuses(&rt, &MISUSES);
 }

@@ -4,6 +4,7 @@ use mq_tasks::run;
 use mq_tasks_harness::{Desk, FAULTY, GOOD, Narrow, Trickle, does};
 use std::alloc::Global;
 use std::io::{self, ErrorKind, Read};
+use std::process::Abort;
 use std::test::Fail;
 
 // What there is in place of a word that names no statement.
@@ -34,7 +35,14 @@ const IS_COMPRESSED: &str = "mqjudge: it is compressed by gzip: unpack it first;
     of a capture recorders/from-capture makes logs\n";
 
 // Words, the bytes of their log, what is written to the output, and to the error stream.
-static OTHER_FILES: [(&[&str], &[u8], &str, &str); 14] = [
+type Refused = (
+    &'static [&'static str],
+    &'static [u8],
+    &'static str,
+    &'static str,
+);
+
+static OTHER_FILES: [Refused; 14] = [
     (
         &["mqjudge", "check", "a.log"],
         CAPTURE,
@@ -118,12 +126,31 @@ static OTHER_FILES: [(&[&str], &[u8], &str, &str); 14] = [
     ),
 ];
 
+// Whether these bytes are refused, and this is written and said.
+fn is_refused(
+    alloc: Global,
+    words: &'static [&'static str],
+    bytes: &'static [u8],
+    written: &str,
+    said: &str,
+) -> bool {
+    let mut desk = Desk::of(alloc, words, bytes, bytes);
+    does(&mut desk, 2, written, said)
+}
+
+// Asserts that the bytes of each row are.
+fn assert_refused(rt: &(impl Abort + AllocGlobal), rows: &[Refused]) {
+    for (words, bytes, written, said) in rows {
+        assert!(rt;
+            is_refused(rt.alloc(), *words, *bytes, written, said),
+            "{words:?} {written}"
+        );
+    }
+}
+
 #[test]
 fn says_what_to_do_with_other_files(rt: HostRuntime) {
-    for (words, bytes, written, said) in &OTHER_FILES {
-        let mut desk = Desk::of(rt.alloc(), words, bytes, bytes);
-        assert!(rt; does(&mut desk, 2, written, said), "{words:?} {written}");
-    }
+    assert_refused(&rt, &OTHER_FILES);
 }
 
 // Whether the program says this, with this status, where the host has these words, a good log, and
@@ -140,31 +167,49 @@ fn says(
     does(&mut desk, status, "", said)
 }
 
-#[test]
-fn says_why_a_file_cannot_be_opened(rt: HostRuntime) -> Result<(), Fail> {
-    let rows = [
-        (Reason::Missing, "there is no such file"),
-        (Reason::Denied, "permission to read it is denied"),
-        (Reason::Directory, "it is a directory"),
-        (Reason::NoDirectory, "part of its path isn't a directory"),
-        (Reason::LongName, "its name is too long"),
-        (Reason::Loop, "its symbolic links lead back to themselves"),
-        (Reason::Other, "the system can't read it"),
-    ];
+// Why a file can't be opened, and what is said then.
+type Unopened = (Reason, &'static str);
+
+static REASONS: [Unopened; 7] = [
+    (Reason::Missing, "there is no such file"),
+    (Reason::Denied, "permission to read it is denied"),
+    (Reason::Directory, "it is a directory"),
+    (Reason::NoDirectory, "part of its path isn't a directory"),
+    (Reason::LongName, "its name is too long"),
+    (Reason::Loop, "its symbolic links lead back to themselves"),
+    (Reason::Other, "the system can't read it"),
+];
+
+// Whether this is said of `b.log`.
+fn is_said_of_file(
+    alloc: Global,
+    words: &'static [&'static str],
+    reason: Reason,
+    text: &str,
+) -> Result<bool, Fail> {
+    let lines = format!(in alloc; "mqjudge: read failed\nmqjudge: b.log: {text}\n")?;
+    Ok(says(alloc, words, Trouble::Unread(reason), 4, lines.as_str()))
+}
+
+// Asserts that it is for each row.
+fn assert_unopened(
+    rt: &(impl Abort + AllocGlobal),
+    words: &'static [&'static str],
+    rows: &[Unopened],
+) -> Result<(), Fail> {
     for (reason, text) in rows {
-        let lines = format!(in rt.alloc(); "mqjudge: read failed\nmqjudge: b.log: {text}\n")?;
-        for words in [
-            &["mqjudge", "check", "b.log"][..],
-            &["mqjudge", "show", "--faults", "b.log"][..],
-        ] {
-            let trouble = Trouble::Unread(reason);
-            assert!(rt;
-                says(rt.alloc(), words, trouble, 4, lines.as_str()),
-                "{text}"
-            );
-        }
+        assert!(rt;
+            is_said_of_file(rt.alloc(), words, *reason, text)?,
+            "{words:?} {text}"
+        );
     }
     Ok(())
+}
+
+#[test]
+fn says_why_a_file_cannot_be_opened(rt: HostRuntime) -> Result<(), Fail> {
+    assert_unopened(&rt, &["mqjudge", "check", "b.log"], &REASONS)?;
+    assert_unopened(&rt, &["mqjudge", "show", "--faults", "b.log"], &REASONS)
 }
 
 #[test]
@@ -174,26 +219,36 @@ fn says_that_a_word_is_no_text(rt: HostRuntime) {
     assert!(rt; says(rt.alloc(), &[], Trouble::Unread(Reason::NotUtf8), 4, lines));
 }
 
+// Whether the codes are listed for this word among these words.
+fn are_codes_listed(
+    alloc: Global,
+    words: &'static [&'static str],
+    word: &str,
+) -> Result<bool, Fail> {
+    let lines = format!(in alloc; "mqjudge: no statement {word}\n{CODES}")?;
+    Ok(says(alloc, words, Trouble::Memory, 3, lines.as_str()))
+}
+
+// Words that ask for a statement, and the one of them that names none.
+static NAMELESS: [(&[&str], &str); 3] = [
+    (&["mqjudge", "explain", "X99"], "X99"),
+    (&["mqjudge", "explain", "w9"], "w9"),
+    (&["mqjudge", "explain", "MQTT-4.4.0"], "MQTT-4.4.0"),
+];
+
 #[test]
 fn lists_the_codes_for_a_word_that_is_none(rt: HostRuntime) -> Result<(), Fail> {
-    let rows: [(&[&str], &str); 3] = [
-        (&["mqjudge", "explain", "X99"], "X99"),
-        (&["mqjudge", "explain", "w9"], "w9"),
-        (&["mqjudge", "explain", "MQTT-4.4.0"], "MQTT-4.4.0"),
-    ];
-    for (words, word) in rows {
-        let lines = format!(in rt.alloc(); "mqjudge: no statement {word}\n{CODES}")?;
-        assert!(rt;
-            says(rt.alloc(), words, Trouble::Memory, 3, lines.as_str()),
-            "{word}"
-        );
+    for (words, word) in &NAMELESS {
+        assert!(rt; are_codes_listed(rt.alloc(), *words, word)?, "{word}");
     }
     Ok(())
 }
 
 // Words whose reading fails at its beginning, in the first bytes, or later; after how many bytes;
 // what is read; and what is written before.
-static UNREAD: [(&[&str], usize, &str, &str); 11] = [
+type Reading = (&'static [&'static str], usize, &'static str, &'static str);
+
+static UNREAD: [Reading; 11] = [
     (&["mqjudge", "check", "a.log"], 0, "a.log", ""),
     (&["mqjudge", "check", "a.log"], 3, "a.log", ""),
     (&["mqjudge", "check", "a.log"], 30, "a.log", ""),
@@ -226,27 +281,44 @@ fn failing_desk(
     desk
 }
 
-#[test]
-fn says_why_a_reading_failed(rt: HostRuntime) -> Result<(), Fail> {
-    let reasons = [
-        (ErrorKind::IsADirectory, "it is a directory"),
-        (
-            ErrorKind::PermissionDenied,
-            "permission to read it is denied",
-        ),
-        (ErrorKind::Other, "the system can't read it"),
-    ];
-    for (words, fails_after, place, written) in UNREAD {
-        for (kind, text) in reasons {
-            let lines = format!(in rt.alloc(); "mqjudge: read failed\nmqjudge: {place}: {text}\n")?;
-            let mut desk = failing_desk(rt.alloc(), words, fails_after, kind);
-            assert!(rt;
-                does(&mut desk, 4, written, lines.as_str()),
-                "{words:?} {text}"
-            );
-        }
+// Whether this is written before a reading of this place fails with such an error, and then said of
+// it.
+fn is_unread(
+    alloc: Global,
+    words: &'static [&'static str],
+    fails_after: usize,
+    place: &str,
+    written: &str,
+    kind: ErrorKind,
+    text: &str,
+) -> Result<bool, Fail> {
+    let lines = format!(in alloc; "mqjudge: read failed\nmqjudge: {place}: {text}\n")?;
+    let mut desk = failing_desk(alloc, words, fails_after, kind);
+    Ok(does(&mut desk, 4, written, lines.as_str()))
+}
+
+// Asserts that it is for each row.
+fn assert_unread(
+    rt: &(impl Abort + AllocGlobal),
+    rows: &[Reading],
+    kind: ErrorKind,
+    text: &str,
+) -> Result<(), Fail> {
+    for (words, fails_after, place, written) in rows {
+        assert!(rt;
+            is_unread(rt.alloc(), *words, *fails_after, place, written, kind, text)?,
+            "{words:?} {text}"
+        );
     }
     Ok(())
+}
+
+#[test]
+fn says_why_a_reading_failed(rt: HostRuntime) -> Result<(), Fail> {
+    let denied = "permission to read it is denied";
+    assert_unread(&rt, &UNREAD, ErrorKind::IsADirectory, "it is a directory")?;
+    assert_unread(&rt, &UNREAD, ErrorKind::PermissionDenied, denied)?;
+    assert_unread(&rt, &UNREAD, ErrorKind::Other, "the system can't read it")
 }
 
 // A reader of which every other read is interrupted, the first one too.
@@ -266,42 +338,58 @@ impl Read for Interrupted<'_> {
     }
 }
 
-#[test]
-fn tries_interrupted_reads_of_the_first_bytes_again(rt: HostRuntime) -> Result<(), Fail> {
+// Whether the first bytes of such a reader are read.
+fn is_start_read(alloc: Global) -> Result<bool, Trouble> {
     let mut reader = Interrupted {
         reader: Trickle::of(GOOD, None),
         is_interrupted: false,
     };
-    let start = read_start(rt.alloc(), &mut reader)?;
-    assert!(rt; start.as_slice() == b"MQTR\x01\x00\x01\x00".as_slice());
+    let start = read_start(alloc, &mut reader)?;
+    Ok(start.as_slice() == b"MQTR\x01\x00\x01\x00".as_slice())
+}
+
+#[test]
+fn tries_interrupted_reads_of_the_first_bytes_again(rt: HostRuntime) -> Result<(), Fail> {
+    assert!(rt; is_start_read(rt.alloc())?);
     Ok(())
 }
 
-// A read that was tried again isn't why a later one of another file failed.
-#[test]
-fn notes_why_the_latest_read_failed(rt: HostRuntime) {
+// Whether it is noted why its first read fails, and nothing after the second one, which doesn't.
+fn noted_reads() -> (bool, bool) {
     let mut reader = Noting::new(Interrupted {
         reader: Trickle::of(GOOD, None),
         is_interrupted: false,
     });
     let mut byte = [0];
-    assert!(rt; reader.read(&mut byte).is_err() && reader.reason() == Some(Reason::Other));
-    assert!(rt; reader.read(&mut byte).is_ok() && reader.reason().is_none());
+    let first = reader.read(&mut byte).is_err() && reader.reason() == Some(Reason::Other);
+    let second = reader.read(&mut byte).is_ok() && reader.reason().is_none();
+    (first, second)
+}
+
+// A read that was tried again isn't why a later one of another file failed.
+#[test]
+fn notes_why_the_latest_read_failed(rt: HostRuntime) {
+    assert_eq!(rt; noted_reads(), (true, true));
+}
+
+// Whether a reader is given up that is always interrupted.
+fn is_given_up(alloc: Global) -> bool {
+    let mut reader = Trickle::failing(GOOD, Some(2), ErrorKind::Interrupted);
+    matches!(
+        read_start(alloc, &mut reader),
+        Err(Trouble::Unread(Reason::Other))
+    )
 }
 
 #[test]
 fn gives_up_a_reader_that_is_always_interrupted(rt: HostRuntime) {
-    let mut reader = Trickle::failing(GOOD, Some(2), ErrorKind::Interrupted);
-    assert!(rt;
-        matches!(
-            read_start(rt.alloc(), &mut reader),
-            Err(Trouble::Unread(Reason::Other))
-        )
-    );
+    assert!(rt; is_given_up(rt.alloc()));
 }
 
+type Words = &'static [&'static str];
+
 // Words of each kind that writes.
-static WRITERS: [&[&str]; 10] = [
+static WRITERS: [Words; 10] = [
     &["mqjudge", "check", "a.log"],
     &["mqjudge", "check", "--json", "a.log"],
     &["mqjudge", "check", "--why", "a.log"],
@@ -314,19 +402,34 @@ static WRITERS: [&[&str]; 10] = [
     &["mqjudge", "--version"],
 ];
 
+// Whether they fail where the output has this little room, and this is said.
+fn is_unwritten(alloc: Global, words: Words, room: usize, stays: bool, said: &str) -> bool {
+    let mut desk = Desk::of(alloc, words, FAULTY, GOOD);
+    let mut output = Outlet::new(Narrow { room, stays });
+    let mut error = Vec::new(alloc);
+    let status = run(alloc, &mut desk, &mut output, &mut error, &mut ());
+    status == 4 && error.as_slice() == said.as_bytes()
+}
+
+// Asserts that the words of each row do.
+fn assert_unwritten(
+    rt: &(impl Abort + AllocGlobal),
+    rows: &[Words],
+    room: usize,
+    stays: bool,
+    said: &str,
+) {
+    for words in rows {
+        assert!(rt;
+            is_unwritten(rt.alloc(), *words, room, stays, said),
+            "{words:?} {said}"
+        );
+    }
+}
+
 // A reader that has gone needs no word; a full disk does.
 #[test]
 fn says_nothing_where_nobody_reads(rt: HostRuntime) {
-    for words in WRITERS {
-        for (room, stays, said) in [(100_000, true, ""), (3, false, "mqjudge: write failed\n")] {
-            let mut desk = Desk::of(rt.alloc(), words, FAULTY, GOOD);
-            let mut output = Outlet::new(Narrow { room, stays });
-            let mut error = Vec::new(rt.alloc());
-            let status = run(rt.alloc(), &mut desk, &mut output, &mut error, &mut ());
-            assert!(rt;
-                status == 4 && error.as_slice() == said.as_bytes(),
-                "{words:?}"
-            );
-        }
-    }
+    assert_unwritten(&rt, &WRITERS, 100_000, true, "");
+    assert_unwritten(&rt, &WRITERS, 3, false, "mqjudge: write failed\n");
 }
