@@ -35,7 +35,7 @@ keep_alive_by role m =
 abbrev pub keep_alive : Role → Moment → ℕ
 keep_alive role k = unwrap_or (first_given (keep_alive_by role) (connection k.past)) 0
 
--- The client is heard: it sends something. Before it does the connection's first CONNACK counts as well.
+-- The client is heard: it sends something; or the connection's first CONNACK comes, from which on a silence counts.
 abbrev pub is_heard : Role → Moment → Bool
 is_heard role m = is_some (client_item role (note m)) || (is_some (connack_of role (note m)) && is_none (connack_before role m))
 
