@@ -13,7 +13,8 @@ use Rattle.mq_rules.specs.Moments.{Moment, moment}
 use Rattle.mq_rules.specs.Connections.{number, fate}
 use Rattle.mq_rules.specs.Statements.{fails}
 use Rattle.mq_rules.specs.Faults.{decided}
-use Rattle.mq_evidence.specs.Evidence.{found, reason, nothing, evidence}
+use Rattle.mq_rules.specs.Evidence.{nothing}
+use Rattle.mq_evidence.specs.Evidence.{found, reason, evidence}
 use Rattle.mq_evidence.specs.ConnectionTrails.{is_of_client, is_of_server, is_on_connection, connection_evidence}
 
 client-past : (r : Rule) → is_of_client r ≡ true → (f : Option Fate) (t : Option Moment) (k : Moment) → found (reason Client r) f t k ≡ found (reason Client r) None None k

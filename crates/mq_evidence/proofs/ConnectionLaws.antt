@@ -11,8 +11,9 @@ use Rattle.mq_rules.specs.FaultKeys.{FaultMap, fault_at}
 use Rattle.mq_rules.specs.Words.{only}
 use Rattle.mq_rules.specs.Moments.{newest}
 use Rattle.mq_rules.proofs.Exports.{moment-newest, moment-older}
-use Rattle.mq_evidence.specs.declared.evidence.Evidence.{Evidence}
-use Rattle.mq_evidence.specs.Evidence.{found, reason, nothing}
+use Rattle.mq_rules.specs.declared.evidence.Evidence.{Evidence}
+use Rattle.mq_rules.specs.Evidence.{nothing}
+use Rattle.mq_evidence.specs.Evidence.{found, reason}
 use Rattle.mq_evidence.specs.Stretches.{advanced}
 use Rattle.mq_evidence.specs.Trailing.{explained_at}
 use Rattle.mq_evidence.specs.ConnectionTrails.{latest_connection, connection_turn, is_on_connection, connection_evidence, IsConnectionExplained}

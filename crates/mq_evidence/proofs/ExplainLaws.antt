@@ -24,7 +24,7 @@ use Rattle.mq_rules.specs.Notes.{is_open}
 use Rattle.mq_rules.specs.Moments.{newest, note}
 use Rattle.mq_rules.specs.Under.{fate_before}
 use Rattle.mq_rules.proofs.Exports.{both_true, moment-newest, moment-older}
-use Rattle.mq_evidence.specs.declared.evidence.Evidence.{Evidence}
+use Rattle.mq_rules.specs.declared.evidence.Evidence.{Evidence}
 use Rattle.mq_evidence.specs.Evidence.{found, reason}
 use Rattle.mq_evidence.specs.Turning.{evidence_under}
 use Rattle.mq_evidence.specs.declared.trail.SessionTrail.{SessionTrail}

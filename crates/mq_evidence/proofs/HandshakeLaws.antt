@@ -13,8 +13,8 @@ use Rattle.mq_rules.specs.Notes.{sends_type}
 use Rattle.mq_rules.specs.Moments.{Moment, position, note, first_found}
 use Rattle.mq_rules.specs.Connections.{connection}
 use Rattle.mq_rules.specs.Pasts.{is_sent_disconnect, is_sent_refusal, is_last_sent}
-use Rattle.mq_evidence.specs.declared.evidence.Evidence.{Evidence}
-use Rattle.mq_evidence.specs.declared.evidence.Numbers.{Numbers}
+use Rattle.mq_rules.specs.declared.evidence.Evidence.{Evidence}
+use Rattle.mq_rules.specs.declared.evidence.Numbers.{Numbers}
 use Rattle.mq_evidence.specs.declared.handshake.Handshake.{Handshake}
 use Rattle.mq_evidence.specs.Evidence.{earliest, it, found, reason, is_connect, is_connack}
 use Rattle.mq_evidence.specs.Stretches.{Stretches, longer}

@@ -23,9 +23,10 @@ use Rattle.mq_rules.specs.Connections.{connection, session, latest_fate}
 use Rattle.mq_rules.specs.Under.{seen, fate_before}
 use Rattle.mq_rules.specs.Identifiers.{latest_opener, opens_id, closes_id, comes_after}
 use Rattle.mq_rules.proofs.Exports.{connection-newest, option_or-none}
+use Rattle.mq_rules.specs.Evidence.{nothing}
 use Rattle.mq_evidence.specs.declared.overtaking.Overtaking.{Overtaking}
 use Rattle.mq_evidence.specs.declared.overtaking.Resend.{Resend}
-use Rattle.mq_evidence.specs.Evidence.{earliest, overtakes, first_overtaking, first_sent_at, nothing, it_with, two_of}
+use Rattle.mq_evidence.specs.Evidence.{earliest, overtakes, first_overtaking, first_sent_at, it_with, two_of}
 use Rattle.mq_evidence.specs.Stretches.{has_id, unended}
 use Rattle.mq_evidence.specs.Overtaking.{IsOvertaking, opened_under, opened_at, is_after, is_above, is_later, later_one, resend_at, by_resend}
 

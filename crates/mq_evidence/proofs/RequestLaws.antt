@@ -8,10 +8,11 @@ use Rattle.mq_rules.specs.declared.packet_note.PacketFields.TheVariants.{Subscri
 use Rattle.mq_rules.specs.Words.{is_id}
 use Rattle.mq_rules.specs.Notes.{Number, Grant, received_fields, received_subscription, received_unsubscription, subscription_in, unsubscription_in, received_as, sent_as, subscribe_in, unsubscribe_in, suback_in, unsuback_in, sent_grant, sent_unsuback}
 use Rattle.mq_rules.specs.Moments.{Moment, position, note, earliest_since}
-use Rattle.mq_evidence.specs.declared.evidence.Evidence.{Evidence}
-use Rattle.mq_evidence.specs.declared.evidence.Numbers.TheVariants.{Nothing}
+use Rattle.mq_rules.specs.declared.evidence.Evidence.{Evidence}
+use Rattle.mq_rules.specs.declared.evidence.Numbers.TheVariants.{Nothing}
+use Rattle.mq_rules.specs.Evidence.{nothing}
 use Rattle.mq_evidence.specs.declared.requests.Request.{Request}
-use Rattle.mq_evidence.specs.Evidence.{nothing, it, it_with, two_of}
+use Rattle.mq_evidence.specs.Evidence.{it, it_with, two_of}
 use Rattle.mq_evidence.specs.Stretches.{longer, has_id}
 use Rattle.mq_evidence.specs.Requests.{filters_of, count_of, first_subscribe, first_unsubscribe, request_of, request_next, compared, of_grant, of_too_much, of_unsuback}
 

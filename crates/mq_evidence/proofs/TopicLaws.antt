@@ -10,8 +10,9 @@ use Rattle.mq_rules.specs.declared.packet_note.PublishNote.{PublishNote}
 use Rattle.mq_rules.specs.Moments.{Moment, note, position}
 use Rattle.mq_rules.specs.Notes.{sent_publish, qos_number}
 use Rattle.mq_rules.specs.Subscriptions.{topic_set, last_set, topic_of, standing_at}
-use Rattle.mq_evidence.specs.declared.evidence.Evidence.{Evidence}
-use Rattle.mq_evidence.specs.Evidence.{found, reason, nothing, it_with, two_of, greatest_for, last_matching}
+use Rattle.mq_rules.specs.declared.evidence.Evidence.{Evidence}
+use Rattle.mq_rules.specs.Evidence.{nothing}
+use Rattle.mq_evidence.specs.Evidence.{found, reason, it_with, two_of, greatest_for, last_matching}
 use Rattle.mq_evidence.specs.Stretches.{longer}
 use Rattle.mq_evidence.specs.Topics.{topic_next, topic_by}
 

@@ -10,9 +10,9 @@ use Rattle.mq_rules.specs.declared.fault.Fault.{Fault}
 use Rattle.mq_rules.specs.declared.faults.FaultKey.{FaultKey}
 use Rattle.mq_rules.specs.Rules.{same_rule}
 use Rattle.mq_rules.specs.Words.{only}
+use Rattle.mq_rules.specs.declared.evidence.Evidence.{Evidence}
+use Rattle.mq_rules.specs.Evidence.{nothing}
 use Rattle.mq_evidence.specs.Trailing.{is_explained}
-use Rattle.mq_evidence.specs.declared.evidence.Evidence.{Evidence}
-use Rattle.mq_evidence.specs.Evidence.{nothing}
 
 -- an event has this identifier, and this is the evidence by it
 pub by-identifier : (o : Option ℕ) (i : ℕ) (of : ℕ → Evidence) (evidence : Evidence) → o ≡ Some i → evidence ≡ of i → evidence ≡ unwrap_or (option_map of o) nothing

@@ -14,7 +14,8 @@ use Rattle.mq_rules.specs.Moments.{Moment, newest, moment}
 use Rattle.mq_rules.specs.Connections.{begun, number, connection, fate, latest_fate, accepts, is_void, begins, any_accepted, has_session, with_first, session, fate_under}
 use Rattle.mq_rules.specs.Under.{fate_before}
 use Rattle.mq_rules.proofs.Exports.{connection-newest, begun-open, begun-same, begun-least, fate-elsewhere, number-within, moment-newest, moment-older}
-use Rattle.mq_evidence.specs.Evidence.{earlier_sessions, found, reason, nothing}
+use Rattle.mq_rules.specs.Evidence.{nothing}
+use Rattle.mq_evidence.specs.Evidence.{earlier_sessions, found, reason}
 use Rattle.mq_evidence.specs.Stretches.{stretches, advanced, longer}
 use Rattle.mq_evidence.specs.Turning.{turn_of, evidence_under}
 

@@ -25,7 +25,8 @@ use Rattle.mq_rules.specs.Statements.{Statement, on_bytes, on_past, in_session, 
 use Rattle.mq_rules.specs.Faults.{decided}
 use Rattle.mq_rules.specs.Under.{seen, is_on_session}
 use Rattle.mq_rules.proofs.Exports.{both_true}
-use Rattle.mq_evidence.specs.Evidence.{found, reason, nothing, evidence}
+use Rattle.mq_rules.specs.Evidence.{nothing}
+use Rattle.mq_evidence.specs.Evidence.{found, reason, evidence}
 use Rattle.mq_evidence.specs.Trailing.{is_found, is_shut}
 
 -- ---- it needs no REST

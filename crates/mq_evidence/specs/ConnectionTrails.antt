@@ -11,11 +11,12 @@ use Rattle.mq_rules.specs.FaultKeys.{FaultMap, fault_at}
 use Rattle.mq_rules.specs.Notes.{is_open}
 use Rattle.mq_rules.specs.Moments.{moment}
 use Rattle.mq_rules.specs.Connections.{connection}
+use Rattle.mq_rules.specs.declared.evidence.Evidence.{Evidence}
+use Rattle.mq_rules.specs.Evidence.{nothing}
 use Rattle.mq_evidence.specs.declared.turn.Turn.{Turn}
-use Rattle.mq_evidence.specs.declared.evidence.Evidence.{Evidence}
 use Rattle.mq_evidence.specs.declared.connection_trail.ConnectionTrail.{ConnectionTrail}
 use Rattle.mq_evidence.specs.declared.connection_explaining.ConnectionExplaining.{ConnectionExplaining}
-use Rattle.mq_evidence.specs.Evidence.{found, reason, nothing}
+use Rattle.mq_evidence.specs.Evidence.{found, reason}
 use Rattle.mq_evidence.specs.Findings.{found_at}
 use Rattle.mq_evidence.specs.Trailing.{IsNext}
 use Rattle.mq_evidence.specs.Stretches.{Stretches}

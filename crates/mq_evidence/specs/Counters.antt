@@ -9,8 +9,8 @@ use Rattle.mq_rules.specs.Moments.{Moment, position, note, latest, count, those}
 use Rattle.mq_rules.specs.Connections.{connection, first_connack}
 use Rattle.mq_rules.specs.Identifiers.{counts}
 use Rattle.mq_rules.specs.Counter.{in_flight}
-use Rattle.mq_evidence.specs.declared.evidence.Evidence.{Evidence}
-use Rattle.mq_evidence.specs.declared.evidence.Numbers.TheVariants.{Two}
+use Rattle.mq_rules.specs.declared.evidence.Evidence.{Evidence}
+use Rattle.mq_rules.specs.declared.evidence.Numbers.TheVariants.{Two}
 use Rattle.mq_evidence.specs.declared.counters.Counters.{Counters}
 use Rattle.mq_evidence.specs.Evidence.{it_with}
 

@@ -30,15 +30,12 @@ use Rattle.mq_rules.specs.Subscriptions.{Standing, standing_from, standing_at, t
 use Rattle.mq_rules.specs.KeepAlive.{is_heard, keep_alive, silence, client_limit, server_limit}
 use Rattle.mq_rules.specs.Statements.{fails}
 use Rattle.mq_rules.specs.Faults.{decided}
-use Rattle.mq_evidence.specs.declared.evidence.Evidence.{Evidence}
-use Rattle.mq_evidence.specs.declared.evidence.Numbers.{Numbers}
-use Rattle.mq_evidence.specs.declared.evidence.Numbers.TheVariants.{Nothing, One, Two}
+use Rattle.mq_rules.specs.declared.evidence.Evidence.{Evidence}
+use Rattle.mq_rules.specs.declared.evidence.Numbers.{Numbers}
+use Rattle.mq_rules.specs.declared.evidence.Numbers.TheVariants.{Nothing, One, Two}
+use Rattle.mq_rules.specs.Evidence.{nothing}
 
 -- ---- words
-
--- no event is to blame
-abbrev pub nothing : Evidence
-nothing = record { because = None; numbers = Nothing }
 
 -- this event, if there is one; with these numbers
 abbrev pub it_with : Option Moment → Numbers → Evidence

@@ -10,8 +10,8 @@ use Rattle.mq_rules.specs.Notes.{sends_type, sent_packet, sent_publish, sent_dis
 use Rattle.mq_rules.specs.Moments.{Moment, position, note}
 use Rattle.mq_rules.specs.Connections.{first_connect, first_connack}
 use Rattle.mq_rules.specs.Pasts.{is_sent_disconnect, is_sent_refusal, is_last_sent, used_alias}
-use Rattle.mq_evidence.specs.declared.evidence.Evidence.{Evidence}
-use Rattle.mq_evidence.specs.declared.evidence.Numbers.TheVariants.{Two}
+use Rattle.mq_rules.specs.declared.evidence.Evidence.{Evidence}
+use Rattle.mq_rules.specs.declared.evidence.Numbers.TheVariants.{Two}
 use Rattle.mq_evidence.specs.declared.handshake.FirstSent.{FirstSent}
 use Rattle.mq_evidence.specs.declared.handshake.Greetings.{Greetings}
 use Rattle.mq_evidence.specs.declared.handshake.Handshake.{Handshake}

@@ -5,8 +5,8 @@ use Rattle.mq_rules.specs.declared.note.Seen.{Seen}
 use Rattle.mq_rules.specs.Moments.{Moment, position, latest, first_given}
 use Rattle.mq_rules.specs.Connections.{connection, first_connect}
 use Rattle.mq_rules.specs.KeepAlive.{is_heard, keep_alive, keep_alive_by, silence, time}
-use Rattle.mq_evidence.specs.declared.evidence.Evidence.{Evidence}
-use Rattle.mq_evidence.specs.declared.evidence.Numbers.TheVariants.{Two}
+use Rattle.mq_rules.specs.declared.evidence.Evidence.{Evidence}
+use Rattle.mq_rules.specs.declared.evidence.Numbers.TheVariants.{Two}
 use Rattle.mq_evidence.specs.declared.hearing.Heard.{Heard}
 use Rattle.mq_evidence.specs.declared.hearing.Hearing.{Hearing}
 use Rattle.mq_evidence.specs.Evidence.{it_with}

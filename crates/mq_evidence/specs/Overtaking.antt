@@ -11,11 +11,12 @@ use Rattle.mq_rules.specs.Words.{is_some_and}
 use Rattle.mq_rules.specs.Notes.{opener_of, closer_of, resend_of}
 use Rattle.mq_rules.specs.Moments.{Moment, position, note}
 use Rattle.mq_rules.specs.Connections.{connection, session}
-use Rattle.mq_evidence.specs.declared.evidence.Evidence.{Evidence}
-use Rattle.mq_evidence.specs.declared.evidence.Numbers.TheVariants.{Two}
+use Rattle.mq_rules.specs.declared.evidence.Evidence.{Evidence}
+use Rattle.mq_rules.specs.declared.evidence.Numbers.TheVariants.{Two}
+use Rattle.mq_rules.specs.Evidence.{nothing}
 use Rattle.mq_evidence.specs.declared.overtaking.Overtaking.{Overtaking}
 use Rattle.mq_evidence.specs.declared.overtaking.Resend.{Resend}
-use Rattle.mq_evidence.specs.Evidence.{earliest, nothing}
+use Rattle.mq_evidence.specs.Evidence.{earliest}
 use Rattle.mq_evidence.specs.Stretches.{has_id, unended}
 
 -- where what this event sends again was first sent, if it is open after these moments of its session

@@ -5,10 +5,11 @@ use Rattle.mq_rules.specs.ByIdentifier.{kept}
 use Rattle.mq_rules.specs.declared.note.Note.{Note}
 use Rattle.mq_rules.specs.Notes.{sent_grant, sent_unsuback, received_subscription, received_unsubscription, sent_as, received_as, subscribe_in, suback_in, unsubscribe_in, unsuback_in}
 use Rattle.mq_rules.specs.Moments.{Moment, position, note, earliest_since}
-use Rattle.mq_evidence.specs.declared.evidence.Evidence.{Evidence}
+use Rattle.mq_rules.specs.declared.evidence.Evidence.{Evidence}
+use Rattle.mq_rules.specs.Evidence.{nothing}
 use Rattle.mq_evidence.specs.declared.requests.Request.{Request}
 use Rattle.mq_evidence.specs.declared.requests.Requests.{Requests}
-use Rattle.mq_evidence.specs.Evidence.{nothing, it, it_with, two_of}
+use Rattle.mq_evidence.specs.Evidence.{it, it_with, two_of}
 use Rattle.mq_evidence.specs.Stretches.{Stretches, has_id}
 
 -- how many Topic Filters a SUBSCRIBE, or an UNSUBSCRIBE, has that was received; 0 if there is none

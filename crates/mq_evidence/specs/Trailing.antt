@@ -15,7 +15,7 @@ use Rattle.mq_rules.specs.Notes.{is_open}
 use Rattle.mq_rules.specs.Rules.{same_rule}
 use Rattle.mq_rules.specs.Moments.{note, moment}
 use Rattle.mq_rules.specs.Connections.{any_accepted}
-use Rattle.mq_evidence.specs.declared.evidence.Evidence.{Evidence}
+use Rattle.mq_rules.specs.declared.evidence.Evidence.{Evidence}
 use Rattle.mq_evidence.specs.declared.trail.SessionTrail.{SessionTrail}
 use Rattle.mq_evidence.specs.declared.explaining.Explaining.{Explaining}
 use Rattle.mq_evidence.specs.Findings.{found_at}

@@ -8,9 +8,10 @@ use Rattle.mq_rules.specs.declared.note.Seen.{Seen}
 use Rattle.mq_rules.specs.Notes.{is_open, is_release}
 use Rattle.mq_rules.specs.Moments.{moment}
 use Rattle.mq_rules.specs.Connections.{number, accepts, is_void, begins, fate_under}
+use Rattle.mq_rules.specs.declared.evidence.Evidence.{Evidence}
+use Rattle.mq_rules.specs.Evidence.{nothing}
 use Rattle.mq_evidence.specs.declared.turn.Turn.{Turn}
-use Rattle.mq_evidence.specs.declared.evidence.Evidence.{Evidence}
-use Rattle.mq_evidence.specs.Evidence.{found, reason, nothing}
+use Rattle.mq_evidence.specs.Evidence.{found, reason}
 
 abbrev pub turn_of : ℕ → Fate → Note → Bool → Turn
 turn_of position f n any = record {

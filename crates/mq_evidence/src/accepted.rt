@@ -10,10 +10,9 @@ ghost use Rattle.mq_evidence.specs.Stretches.{Comes};
 ghost use Rattle.mq_evidence.specs.Accepted.{IsAccepted};
 
 use crate::because::it;
-use crate::evidence::Evidence;
 use crate::tables::keep_again;
 use crate::turn::Turn;
-use mq_rules::{Fate, Note, Role};
+use mq_rules::{Evidence, Fate, Note, Role};
 
 /// Where connections were accepted.
 #[derive(Drop)]

@@ -1,10 +1,10 @@
 //! The words of evidence, over what is kept.
 ghost use Rattle.std.specs.Prelude.{◌≡◌, Some, is_some, unwrap_or};
 ghost use Rattle.mq_rules.specs.Words.{only};
-ghost use Rattle.mq_evidence.specs.declared.evidence.Numbers.TheVariants as numbers_of;
+ghost use Rattle.mq_rules.specs.declared.evidence.Numbers.TheVariants as numbers_of;
 ghost use Rattle.mq_evidence.specs.Evidence as evidence;
 
-use crate::evidence::{Evidence, Numbers};
+use mq_rules::{Evidence, Numbers};
 
 /// This event, if there is one.
 pub fn it(because: Option<u32>) -> Evidence

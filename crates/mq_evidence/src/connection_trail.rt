@@ -21,13 +21,12 @@ ghost use Rattle.mq_evidence.specs.Evidence.{earliest, is_connack};
 ghost use Rattle.mq_evidence.specs.ConnectionTrails.{IsConnectionTrail, connection_turn, latest_connection, is_of_client, is_of_server, is_on_connection};
 
 use crate::accepted::Accepted;
-use crate::evidence::Evidence;
 use crate::findings::Findings;
 use crate::handshake::Handshake;
 use crate::hearing::Hearing;
 use crate::turn::Turn;
 use mq_log::Place3;
-use mq_rules::{Faults, Memory, Note, Role, Rule, Tested};
+use mq_rules::{Evidence, Faults, Memory, Note, Role, Rule, Tested};
 
 /// What came on the connection, as far as the evidence of a later fault may need it, where
 /// connections were accepted, and when the client was last heard.

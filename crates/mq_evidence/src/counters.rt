@@ -12,11 +12,10 @@ ghost use Rattle.mq_evidence.specs.Counters as counting;
 ghost use Rattle.mq_evidence.specs.Counters.{IsCounters, pings_evidence};
 
 use crate::because::it_with;
-use crate::evidence::{Evidence, Numbers};
 use crate::handshake::{Handshake, is_connack};
 use crate::tables::keep_again;
 use crate::turn::Turn;
-use mq_rules::{Note, Role};
+use mq_rules::{Evidence, Note, Numbers, Role};
 
 /// What is counted on the connection.
 #[derive(Drop)]

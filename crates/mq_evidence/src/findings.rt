@@ -4,8 +4,7 @@ ghost use Rattle.mq_rules.specs.declared.rule.Rule.{Rule as TheRule};
 ghost use Rattle.mq_rules.specs.Rules.{same_rule};
 ghost use Rattle.mq_evidence.specs.Findings.{found_at};
 
-use crate::evidence::Evidence;
-use mq_rules::{FaultKey, Memory};
+use mq_rules::{Evidence, FaultKey, Memory};
 use std::alloc::Global;
 use std::collections::BTreeMap;
 

@@ -14,12 +14,11 @@ ghost use Rattle.mq_evidence.specs.Stretches.{Stretches, Comes, advanced, longer
 ghost use Rattle.mq_evidence.specs.Handshakes.{IsHandshake, IsFirstSent, IsGreetings, first_on, peer_on, announced_size, announced_alias, announced_receive, size_evidence, alias_evidence, used_evidence, qos_evidence, expiry_evidence, quota_evidence};
 
 use crate::because::{from_short, from_word, if_announced, it, it_with, one_of, two_of, two_with};
-use crate::evidence::Evidence;
 use crate::passing::passes_handshake;
 use crate::tables::keep_once;
 use crate::turn::Turn;
 use mq_packet::PacketType;
-use mq_rules::{ConnackNote, ConnectNote, Note, Role, qos_number};
+use mq_rules::{ConnackNote, ConnectNote, Evidence, Note, Role, qos_number};
 
 /// The Maximum QoS of a server that announces none (MQTT 5.0, section 3.2.2.3.4).
 const MAXIMUM_QOS: u64 = 2;

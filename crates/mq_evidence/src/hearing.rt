@@ -11,15 +11,14 @@ ghost use Rattle.mq_rules.specs.Connections.{connection};
 ghost use Rattle.mq_rules.specs.Moments.{latest, newest, position};
 ghost use Rattle.mq_rules.specs.KeepAlive as keeping;
 ghost use Rattle.mq_rules.specs.Under.{seen};
-ghost use Rattle.mq_evidence.specs.declared.evidence.Numbers.TheVariants as numbers_of;
+ghost use Rattle.mq_rules.specs.declared.evidence.Numbers.TheVariants as numbers_of;
 ghost use Rattle.mq_evidence.specs.Evidence as evidence;
 ghost use Rattle.mq_evidence.specs.Hearing.{IsHearing, silence_evidence};
 
 use crate::because::it_with;
-use crate::evidence::{Evidence, Numbers};
 use crate::handshake::is_connack;
 use mq_log::Place3;
-use mq_rules::{ConnackNote, Note, Role};
+use mq_rules::{ConnackNote, Evidence, Note, Numbers, Role};
 
 /// The Reason Code of a CONNACK that accepts the connection (MQTT 5.0, section 3.2.2.2).
 const SUCCESS: u8 = 0x00;

@@ -17,9 +17,8 @@ ghost use Rattle.mq_evidence.specs.Evidence.{it_with, two_of, first_overtaking, 
 ghost use Rattle.mq_evidence.specs.Stretches.{Comes};
 ghost use Rattle.mq_evidence.specs.Overtaking.{IsOvertaking, opened_under, is_above, is_later, later_one, by_resend};
 
-use crate::evidence::{Evidence, Numbers};
 use crate::turn::Turn;
-use mq_rules::{Memory, Note};
+use mq_rules::{Evidence, Memory, Note, Numbers};
 use std::alloc::Global;
 
 // No event is to blame.

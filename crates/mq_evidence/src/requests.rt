@@ -8,9 +8,8 @@ ghost use Rattle.mq_rules.specs.Moments.{Moment};
 ghost use Rattle.mq_evidence.specs.Stretches.{Stretches, Comes, advanced, nothing_yet};
 ghost use Rattle.mq_evidence.specs.Requests.{IsRequests, request_next, filters_of, count_of, compared, of_grant, of_too_much, of_unsuback};
 
-use crate::evidence::{Evidence, Numbers};
 use crate::turn::Turn;
-use mq_rules::{ByIdentifier, Memory, Note, PacketFields};
+use mq_rules::{ByIdentifier, Evidence, Memory, Note, Numbers, PacketFields};
 use std::alloc::Global;
 
 /// A request that waits for its answer.

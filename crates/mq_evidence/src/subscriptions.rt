@@ -12,12 +12,11 @@ ghost use Rattle.mq_evidence.specs.Stretches.{Stretches, Comes, advanced, nothin
 ghost use Rattle.mq_evidence.specs.Subscriptions.{IsSubscriptions};
 
 use crate::ceilings::Ceilings;
-use crate::evidence::{Evidence, Numbers};
 use crate::subscribed::Subscribed;
 use crate::topics::Topics;
 use crate::turn::Turn;
 use mq_packet::Qos;
-use mq_rules::{Memory, Note, PublishNote, qos_number};
+use mq_rules::{Evidence, Memory, Note, Numbers, PublishNote, qos_number};
 use std::alloc::Global;
 
 /// The Topic Filters that stand in the session, what they allow, and the topics of what is sent.

@@ -29,7 +29,6 @@ use crate::answering::{Answering, Waiting};
 use crate::asked::Asked;
 use crate::begun::Begun;
 use crate::counters::Counters;
-use crate::evidence::Evidence;
 use crate::exchange::Exchange;
 use crate::findings::Findings;
 use crate::handshake::Handshake;
@@ -40,7 +39,7 @@ use crate::session::Session;
 use crate::subscriptions::{Subscriptions, kept_if, take_if_kept};
 use crate::unanswered::Unanswered;
 use mq_log::Place3;
-use mq_rules::{Fate, Faults, Memory, Note, Role, Rule, Tested};
+use mq_rules::{Evidence, Fate, Faults, Memory, Note, Role, Rule, Tested};
 use std::alloc::Global;
 
 /// What came in the session and on the connection, as far as the evidence of a later fault may need

@@ -15,7 +15,7 @@ use Rattle.mq_rules.specs.FaultKeys.{FaultMap, faults_at, key_cmp}
 use Rattle.mq_rules.specs.Moments.{IsPlaced}
 use Rattle.mq_rules.specs.Notes.{seen, seen_in}
 use Rattle.mq_rules.proofs.Exports.{orderly}
-use Rattle.mq_evidence.specs.declared.evidence.Evidence.{Evidence}
+use Rattle.mq_rules.specs.declared.evidence.Evidence.{Evidence}
 use Rattle.mq_report.specs.Calendar.{time_words}
 use Rattle.mq_report.specs.Reasons.{later_reasons}
 use Rattle.mq_report.specs.Outgoing.{Carries, Puts}

@@ -9,9 +9,9 @@ use Rattle.mq_trace.specs.Writing.{AppendsBeginning, LeavesToWrite}
 use Rattle.mq_rules.specs.declared.role.Role.{Role}
 use Rattle.mq_rules.specs.declared.fault.Fault.{Fault}
 use Rattle.mq_rules.specs.declared.faults.FaultKey.{FaultKey}
-use Rattle.mq_evidence.specs.declared.evidence.Evidence.{Evidence}
-use Rattle.mq_evidence.specs.declared.evidence.Numbers.{Numbers}
-use Rattle.mq_evidence.specs.declared.evidence.Numbers.TheVariants.{Nothing, One, Two}
+use Rattle.mq_rules.specs.declared.evidence.Evidence.{Evidence}
+use Rattle.mq_rules.specs.declared.evidence.Numbers.{Numbers}
+use Rattle.mq_rules.specs.declared.evidence.Numbers.TheVariants.{Nothing, One, Two}
 use Rattle.mq_report.specs.Report.{offset_data}
 use Rattle.mq_report.specs.Reasons.{first_reason, later_reasons, reasoned, reasoned_line, reasoned_lines, event_data, number_items, reasoned_data, reasoned_items, reasoned_report_data}
 use Rattle.mq_trace.proofs.Exports.{all-left, appends-nothing, piece-written, last-written, stopped-in-piece}

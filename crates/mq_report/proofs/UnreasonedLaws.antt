@@ -12,9 +12,9 @@ use Rattle.mq_rules.specs.declared.fault.Fault.{Fault}
 use Rattle.mq_rules.specs.declared.faults.FaultKey.{FaultKey}
 use Rattle.mq_rules.specs.Naming.{citation_of}
 use Rattle.mq_rules.specs.Rules.{code_of, line_of, found_line, lines}
-use Rattle.mq_evidence.specs.declared.evidence.Evidence.{Evidence}
-use Rattle.mq_evidence.specs.declared.evidence.Numbers.{Numbers}
-use Rattle.mq_evidence.specs.declared.evidence.Numbers.TheVariants.{Nothing, One, Two}
+use Rattle.mq_rules.specs.declared.evidence.Evidence.{Evidence}
+use Rattle.mq_rules.specs.declared.evidence.Numbers.{Numbers}
+use Rattle.mq_rules.specs.declared.evidence.Numbers.TheVariants.{Nothing, One, Two}
 use Rattle.mq_report.specs.OneLine.{is_on_one_line}
 use Rattle.mq_report.specs.Report.{line, offset_text, fault_text, fault_lines, verdict_text, text_report}
 use Rattle.mq_report.specs.Reasons.{event_text, number_words, because_text, first_reason, later_reasons, reasoned, reasoned_lines, reasoned_text_report, text_lines, is_because, unless_because, without_reasons}

@@ -3,9 +3,9 @@ use Rattle.std.proofs.Common.{◌≡◌, ℕ, List, [], ◌∷◌, ◌++◌, Opt
 use Rattle.mq_rules.specs.declared.role.Role.{Role}
 use Rattle.mq_rules.specs.declared.fault.Fault.{Fault}
 use Rattle.mq_rules.specs.declared.faults.FaultKey.{FaultKey}
+use Rattle.mq_rules.specs.declared.evidence.Evidence.{Evidence}
 use Rattle.mq_report.specs.declared.display.outgoing.Outgoing.{Outgoing}
 use Rattle.mq_report.specs.Outgoing.{Puts}
-use Rattle.mq_evidence.specs.declared.evidence.Evidence.{Evidence}
 use Rattle.mq_report.specs.Reasons.{later_reasons}
 use Rattle.mq_report.specs.Display.{explained, fault_note, fault_notes, reason_of_first}
 use Rattle.mq_report.specs.Views.{reasons_past}

@@ -16,7 +16,7 @@ use Rattle.mq_rules.specs.declared.fault.Fault.{Fault}
 use Rattle.mq_rules.specs.declared.faults.FaultKey.{FaultKey}
 use Rattle.mq_rules.specs.Naming.{citation_of, sentence_of}
 use Rattle.mq_rules.specs.Rules.{code_of}
-use Rattle.mq_evidence.specs.declared.evidence.Evidence.{Evidence}
+use Rattle.mq_rules.specs.declared.evidence.Evidence.{Evidence}
 use Rattle.mq_report.specs.Because.{reason_words}
 use Rattle.mq_report.specs.Reasons.{later_reasons}
 use Rattle.mq_report.specs.declared.report.RunFault.{RunFault}

@@ -10,10 +10,10 @@ use Rattle.mq_rules.specs.declared.fault.Fault.{Fault}
 use Rattle.mq_rules.specs.declared.faults.FaultKey.{FaultKey}
 use Rattle.mq_rules.specs.Naming.{citation_of}
 use Rattle.mq_rules.specs.Rules.{code_of}
-use Rattle.mq_evidence.specs.declared.evidence.Evidence.{Evidence}
-use Rattle.mq_evidence.specs.declared.evidence.Numbers.{Numbers}
-use Rattle.mq_evidence.specs.declared.evidence.Numbers.TheVariants.{Nothing, One, Two}
-use Rattle.mq_evidence.specs.Evidence.{nothing}
+use Rattle.mq_rules.specs.declared.evidence.Evidence.{Evidence}
+use Rattle.mq_rules.specs.declared.evidence.Numbers.{Numbers}
+use Rattle.mq_rules.specs.declared.evidence.Numbers.TheVariants.{Nothing, One, Two}
+use Rattle.mq_rules.specs.Evidence.{nothing}
 use Rattle.mq_report.specs.declared.report.Form.{Form}
 use Rattle.mq_report.specs.declared.report.Form.TheVariants as forms
 use Rattle.mq_report.specs.Report.{line, fault_text, offset_data, verdict_text, verdict_word, summary_report}

@@ -4,7 +4,7 @@ use Rattle.std.specs.FinMap as map
 use Rattle.mq_log.specs.Events.{Placed}
 use Rattle.mq_rules.specs.declared.fault.Fault.{Fault}
 use Rattle.mq_rules.specs.declared.faults.FaultKey.{FaultKey}
-use Rattle.mq_evidence.specs.declared.evidence.Evidence.{Evidence}
+use Rattle.mq_rules.specs.declared.evidence.Evidence.{Evidence}
 use Rattle.mq_report.specs.Reasons.{later_reasons}
 use Rattle.mq_report.specs.declared.display.annotated.Annotated.{Annotated as AnnotatedView}
 use Rattle.mq_report.specs.declared.display.view.View.{View}

@@ -6,7 +6,7 @@ ghost use Rattle.mq_rules.specs.declared.role.Role.{Role};
 ghost use Rattle.mq_rules.specs.declared.role.Further.{Further};
 ghost use Rattle.mq_rules.specs.declared.fault.Fault.{Fault};
 ghost use Rattle.mq_rules.specs.declared.faults.FaultKey.{FaultKey};
-ghost use Rattle.mq_evidence.specs.declared.evidence.Evidence.{Evidence};
+ghost use Rattle.mq_rules.specs.declared.evidence.Evidence.{Evidence};
 ghost use Rattle.mq_report.specs.declared.report.Form.{Form};
 ghost use Rattle.mq_packet.specs.declared.rule.PacketRule.TheVariants.{W04, W05, W09, W14};
 ghost use Rattle.mq_report.specs.Calendar.{IsDate, day_of_month, month_of, utc_text, year_of};

@@ -21,7 +21,7 @@ pub use laws::{
     worked_broken_packets, worked_times,
 };
 pub use long_packet::write_long_packet;
-pub use mq_evidence::{Evidence, Numbers};
+pub use mq_rules::{Evidence, Numbers};
 pub use report::coverage::Covered;
 pub use report::json::{write_covered_json, write_json, write_reasoned_json};
 pub use report::summary::{write_covered_summary, write_summary};

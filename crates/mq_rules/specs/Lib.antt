@@ -27,6 +27,7 @@ pub mod Under
 pub mod Growing
 pub mod FaultKeys
 pub mod Faults
+pub mod Evidence
 pub mod Folds
 pub mod Burden
 pub mod Weights

@@ -12,7 +12,7 @@ use Rattle.mq_rules.specs.declared.fault.Fault.{Fault}
 use Rattle.mq_rules.specs.declared.faults.FaultKey.{FaultKey}
 use Rattle.mq_rules.specs.FaultKeys.{FaultMap}
 use Rattle.mq_rules.specs.Notes.{seen_in, seen}
-use Rattle.mq_evidence.specs.declared.evidence.Evidence.{Evidence}
+use Rattle.mq_rules.specs.declared.evidence.Evidence.{Evidence}
 use Rattle.mq_report.specs.Report.{refused_report, report_on}
 use Rattle.mq_report.specs.Reasons.{reasoned_report_on}
 use Rattle.mq_report.specs.Stopping.{IsJudged, default_limit, IsRefusedAt}

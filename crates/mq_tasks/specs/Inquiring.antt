@@ -9,7 +9,7 @@ use Rattle.mq_choice.specs.Choices.{chosen_in, tested_for}
 use Rattle.mq_rules.specs.declared.role.Tested.{Tested}
 use Rattle.mq_rules.specs.declared.fault.Fault.{Fault}
 use Rattle.mq_rules.specs.declared.faults.FaultKey.{FaultKey}
-use Rattle.mq_evidence.specs.declared.evidence.Evidence.{Evidence}
+use Rattle.mq_rules.specs.declared.evidence.Evidence.{Evidence}
 use Rattle.mq_report.specs.Report.{refused_report}
 use Rattle.mq_report.specs.Reasons.{reasoned_report_on}
 use Rattle.mq_report.specs.Stopping.{IsJudged, default_limit, IsRefusedAt}

@@ -4,7 +4,7 @@ use Rattle.mq_rules.specs.Notes.{tested_by, seen_in}
 use Rattle.mq_rules.specs.declared.role.Tested.{Tested}
 use Rattle.mq_rules.specs.declared.fault.Fault.{Fault}
 use Rattle.mq_rules.specs.declared.faults.FaultKey.{FaultKey}
-use Rattle.mq_evidence.specs.declared.evidence.Evidence.{Evidence}
+use Rattle.mq_rules.specs.declared.evidence.Evidence.{Evidence}
 use Rattle.mq_report.specs.Stopping.{IsJudged, default_limit, IsRefusedAt}
 use Rattle.mq_trail.specs.Explaining.{AreReasons, IsSame}
 use Rattle.mq_judge.specs.declared.Refusal.{Refusal}

@@ -8,6 +8,7 @@ use Rattle.clap.specs.Words.{Text}
 use Rattle.mq_judge.specs.declared.Form.TheVariants as forms
 use Rattle.mq_judge.specs.declared.Refusal.{Refusal}
 use Rattle.mq_judge.specs.declared.Refusal.TheVariants as refusals
+use Rattle.mq_rules.specs.declared.evidence.Evidence.{Evidence}
 use Rattle.mq_report.specs.Report.{refused_line}
 use Rattle.mq_judge.specs.Runner.{IsFaultless}
 use Rattle.mq_choice.specs.Choices.{chosen_in, tested_for, unlisted}
@@ -18,7 +19,6 @@ use Rattle.mq_rules.specs.declared.role.Further.{Further}
 use Rattle.mq_rules.specs.declared.role.Tested.{Tested}
 use Rattle.mq_rules.specs.declared.fault.Fault.{Fault}
 use Rattle.mq_rules.specs.declared.faults.FaultKey.{FaultKey}
-use Rattle.mq_evidence.specs.declared.evidence.Evidence.{Evidence}
 use Rattle.mq_log.specs.Events.{Placed, events}
 use Rattle.mq_command.specs.declared.command_line.Review.{Review}
 use Rattle.mq_tasks.specs.declared.reviewing.Plan.{Plan as SourcePlan}

@@ -7,10 +7,9 @@ ghost use Rattle.mq_tasks.specs.Lapses.{AreVerdictReasons, LacksReasons, changed
 ghost use Rattle.mq_host.specs.Streams.{IsTold, stream};
 
 use mq_choice::Choice;
-use mq_evidence::Evidence;
 use mq_host::{ErrorStream, FAILED, Failure};
 use mq_judge::{Refusal, Verdict};
-use mq_rules::Tested;
+use mq_rules::{Evidence, Tested};
 use mq_trail::{Unexplained, explain_reader};
 use std::alloc::Global;
 use std::io::Read;

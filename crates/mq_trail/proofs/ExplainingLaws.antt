@@ -17,8 +17,8 @@ use Rattle.mq_rules.specs.Statements.{fails}
 use Rattle.mq_rules.specs.Faults.{chosen_fault, decided, fault_in, listed_faults, reported}
 use Rattle.mq_rules.proofs.Exports.{entries-listed, listed-there}
 use Rattle.mq_choice.specs.Choices.{AreChosenFaults}
+use Rattle.mq_rules.specs.declared.evidence.Evidence.{Evidence}
 use Rattle.mq_report.specs.Stopping.{IsJudged}
-use Rattle.mq_evidence.specs.declared.evidence.Evidence.{Evidence}
 use Rattle.mq_trail.specs.declared.explaining.Unexplained.{Unexplained}
 use Rattle.mq_trail.specs.declared.explaining.Unexplained.TheVariants as why
 use Rattle.mq_trail.specs.Explaining.{AnswersFor, AreReasons, ExplainsOver, IsReason, IsSame, IsWanted, AreWanted}

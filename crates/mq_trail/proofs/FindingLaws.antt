@@ -14,7 +14,8 @@ use Rattle.mq_rules.specs.Statements.{Statement, on_bytes, on_past, in_session, 
 use Rattle.mq_rules.specs.Rules.{binds}
 use Rattle.mq_rules.proofs.Exports.{both_true, moment-beginning, moment-within}
 use Rattle.mq_books.specs.Holding.{settled, IsSettled}
-use Rattle.mq_evidence.specs.Evidence.{evidence, found, reason, nothing}
+use Rattle.mq_rules.specs.Evidence.{nothing}
+use Rattle.mq_evidence.specs.Evidence.{evidence, found, reason}
 use Rattle.mq_evidence.specs.Turning.{evidence_under}
 use Rattle.mq_evidence.specs.Trailing.{is_found, is_shut}
 use Rattle.mq_evidence.proofs.Exports.{evidence-own, evidence-whole, shut-where-fails}

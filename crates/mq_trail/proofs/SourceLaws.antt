@@ -26,9 +26,10 @@ use Rattle.mq_rules.specs.Connections.{number, fate}
 use Rattle.mq_rules.specs.Statements.{fails}
 use Rattle.mq_rules.specs.Faults.{decided}
 use Rattle.mq_rules.proofs.Exports.{both_true, moment-beginning}
-use Rattle.mq_evidence.specs.declared.evidence.Evidence.{Evidence}
-use Rattle.mq_evidence.specs.declared.evidence.Numbers.TheVariants.{Nothing}
-use Rattle.mq_evidence.specs.Evidence.{Reason, by_itself, by_silence, at_rest, it, connack_at, evidence, found, reason, nothing}
+use Rattle.mq_rules.specs.declared.evidence.Evidence.{Evidence}
+use Rattle.mq_rules.specs.declared.evidence.Numbers.TheVariants.{Nothing}
+use Rattle.mq_rules.specs.Evidence.{nothing}
+use Rattle.mq_evidence.specs.Evidence.{Reason, by_itself, by_silence, at_rest, it, connack_at, evidence, found, reason}
 use Rattle.mq_evidence.specs.ConnectionTrails.{is_on_connection}
 use Rattle.mq_evidence.specs.Trailing.{is_found}
 use Rattle.mq_evidence.specs.Rests.{shows_at}

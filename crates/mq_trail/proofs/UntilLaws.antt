@@ -23,7 +23,8 @@ use Rattle.mq_rules.specs.Rules.{binds}
 use Rattle.mq_rules.specs.Statements.{Statement, on_bytes, on_past, in_session, at_release, at_rest, by_later, statement, is_so, is_so_under, where_accepted, fails}
 use Rattle.mq_rules.specs.Faults.{decided}
 use Rattle.mq_rules.proofs.Exports.{both_true, decided-fails, decided-within, fails-kept, fate-step, moment-older, moment-stays, not_true}
-use Rattle.mq_evidence.specs.Evidence.{Reason, by_itself, in_past, under_fate, at_rest as by_rest, evidence, found, nothing, reason}
+use Rattle.mq_rules.specs.Evidence.{nothing}
+use Rattle.mq_evidence.specs.Evidence.{Reason, by_itself, in_past, under_fate, at_rest as by_rest, evidence, found, reason}
 use Rattle.mq_trail.specs.Following.{HasFollowed}
 use Rattle.mq_trail.specs.Until.{HasSeenUntil, is_decided_after, up_to}
 use Rattle.mq_trail.proofs.FindingLaws.{moment-where-fails}

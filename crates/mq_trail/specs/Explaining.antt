@@ -10,8 +10,8 @@ use Rattle.mq_rules.specs.Statements.{fails}
 use Rattle.mq_rules.specs.Faults.{decided, listed_faults}
 use Rattle.mq_rules.specs.FaultKeys.{FaultMap, fault_at}
 use Rattle.mq_rules.specs.declared.rule.Rule.{Rule}
+use Rattle.mq_rules.specs.declared.evidence.Evidence.{Evidence}
 use Rattle.mq_report.specs.Stopping.{IsJudged, IsRefusedAt, default_limit}
-use Rattle.mq_evidence.specs.declared.evidence.Evidence.{Evidence}
 use Rattle.mq_evidence.specs.Evidence.{evidence}
 use Rattle.mq_trail.specs.declared.explaining.Unexplained.{Unexplained}
 use Rattle.mq_trail.specs.declared.explaining.Unexplained.TheVariants.{Refused, Changed, Memory}

@@ -14,9 +14,8 @@ use super::because::put_reason;
 use super::calendar::put_time;
 use super::outgoing::Outgoing;
 use super::view::{put_line_with_bytes, put_long_line};
-use mq_evidence::Evidence;
 use mq_log::{Event, Place3};
-use mq_rules::{Fault, FaultKey, Faults, Role, Rule};
+use mq_rules::{Evidence, Fault, FaultKey, Faults, Role, Rule};
 use std::io::Write;
 
 /// How much of a log is shown with its faults.

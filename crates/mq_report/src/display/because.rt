@@ -7,8 +7,7 @@ ghost use Rattle.mq_report.specs.Phrases.{with_number, with_numbers};
 ghost use Rattle.mq_report.specs.Outgoing.{Puts};
 
 use super::outgoing::Outgoing;
-use mq_evidence::{Evidence, Numbers};
-use mq_rules::Rule;
+use mq_rules::{Evidence, Numbers, Rule};
 use std::io::Write;
 
 /// Words with a number between them.

@@ -10,8 +10,7 @@ use super::super::lines::Lines;
 use super::RunFault;
 use super::line::write_line;
 use super::text::Found;
-use mq_evidence::{Evidence, Numbers};
-use mq_rules::{FaultKey, Faults, Role};
+use mq_rules::{Evidence, FaultKey, Faults, Numbers, Role};
 use std::fmt;
 use std::io::Write;
 

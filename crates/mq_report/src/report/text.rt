@@ -13,8 +13,7 @@ use super::line::write_line;
 use super::reasons::write_reasoned_faults;
 use super::unjudged::Gap;
 use super::{Form, RunFault, Verdict, write_verdict};
-use mq_evidence::Evidence;
-use mq_rules::{Fault, FaultKey, Faults, Role};
+use mq_rules::{Evidence, Fault, FaultKey, Faults, Role};
 use std::fmt;
 use std::io::Write;
 

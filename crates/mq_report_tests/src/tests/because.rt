@@ -2,9 +2,8 @@
 //! statements and from `bench/because.py --words`.
 use super::harness::is_made_of;
 use super::lines::{line_of, role_of};
-use mq_evidence::{Evidence, Numbers};
 use mq_report::{Extent, show_faults};
-use mq_rules::{Fault, FaultKey, Faults, Role, Rule};
+use mq_rules::{Evidence, Fault, FaultKey, Faults, Numbers, Role, Rule};
 use std::alloc::Global;
 use std::process::Abort;
 

@@ -1,7 +1,6 @@
 //! Reports that say what each fault conflicts with, written out.
-use mq_evidence::{Evidence, Numbers};
 use mq_report::{Form, Verdict, write_reasoned_report};
-use mq_rules::{Fault, FaultKey, Faults, Role, Rule};
+use mq_rules::{Evidence, Fault, FaultKey, Faults, Numbers, Role, Rule};
 use std::process::Abort;
 
 const E1A_AT_4: (FaultKey, Fault) = (

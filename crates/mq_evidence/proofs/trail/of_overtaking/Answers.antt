@@ -1,7 +1,7 @@
 use Rattle.std.proofs.Common.{ap, sym, ◌∙◌, ◌==◌}
 use Rattle.mq_rules.specs.Moments.{newest, moments}
 use Rattle.mq_rules.specs.Under.{seen}
-use Rattle.mq_evidence.specs.declared.evidence.Numbers.TheVariants.{Nothing}
+use Rattle.mq_rules.specs.declared.evidence.Numbers.TheVariants.{Nothing}
 use Rattle.mq_evidence.specs.Exchange.{exchange_of}
 use Rattle.mq_evidence.specs.Evidence.{it, first_other}
 use Rattle.mq_evidence.specs.Stretches.{stretches}

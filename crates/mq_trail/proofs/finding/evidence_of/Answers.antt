@@ -5,7 +5,7 @@ use Rattle.indexmap.specs.IndexMap.{get}
 use Rattle.mq_rules.specs.contracts.rule.Rule.{the_type}
 use Rattle.mq_rules.specs.declared.rule.Rule.TheVariants.{S06}
 use Rattle.mq_rules.specs.FaultKeys.{fault_at}
-use Rattle.mq_evidence.specs.declared.evidence.Numbers.TheVariants.{Nothing}
+use Rattle.mq_rules.specs.declared.evidence.Numbers.TheVariants.{Nothing}
 use Rattle.mq_evidence.specs.ConnectionTrails.{is_on_connection}
 use Rattle.mq_trail.proofs.FindingLaws.{moment-where-fails}
 use Rattle.mq_trail.proofs.SourceLaws.{evidence-itself, evidence-silent, evidence-resumed, rest-there, rest-kept}

@@ -3,7 +3,7 @@ use Rattle.std.specs.Prelude.{option_map}
 use Rattle.mq_rules.specs.Notes.{is_open}
 use Rattle.mq_rules.specs.Moments.{position, moments, note, latest}
 use Rattle.mq_rules.specs.Connections.{accepts_at}
-use Rattle.mq_evidence.specs.declared.evidence.Numbers.TheVariants.{Nothing}
+use Rattle.mq_rules.specs.declared.evidence.Numbers.TheVariants.{Nothing}
 use Rattle.mq_evidence.specs.Evidence.{accepted_before}
 use Rattle.mq_evidence.proofs.AcceptedLaws.{before-found}
 use Rattle.mq_evidence.proofs.HandshakeLaws.{same-parts}

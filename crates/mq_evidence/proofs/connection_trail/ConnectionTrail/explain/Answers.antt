@@ -7,7 +7,7 @@ use Rattle.mq_rules.specs.declared.faults.FaultKey.{FaultKey}
 use Rattle.mq_rules.specs.Words.{only}
 use Rattle.mq_rules.specs.Moments.{newest}
 use Rattle.mq_rules.specs.Under.{seen}
-use Rattle.mq_evidence.specs.declared.evidence.Evidence.{Evidence}
+use Rattle.mq_rules.specs.declared.evidence.Evidence.{Evidence}
 use Rattle.mq_evidence.specs.Evidence.{found, reason}
 use Rattle.mq_evidence.specs.Findings.{found_at}
 use Rattle.mq_evidence.specs.Trailing.{is_explained}

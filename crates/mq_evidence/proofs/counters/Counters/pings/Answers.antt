@@ -2,7 +2,7 @@ use Rattle.std.proofs.Common.{ap, ◌∙◌}
 use Rattle.std.specs.Prelude.{option_map}
 use Rattle.mq_rules.specs.Moments.{position, latest, count}
 use Rattle.mq_rules.specs.Connections.{connection}
-use Rattle.mq_evidence.specs.declared.evidence.Numbers.TheVariants.{Two}
+use Rattle.mq_rules.specs.declared.evidence.Numbers.TheVariants.{Two}
 use Rattle.mq_evidence.specs.Counters.{asks_ping, answers_ping}
 use Rattle.mq_evidence.proofs.HandshakeLaws.{same-parts}
 use Rattle.mq_evidence.proofs.counters.Counters.pings.Goals as goal

@@ -4,7 +4,7 @@ use Rattle.mq_rules.specs.Moments.{latest, position, newest}
 use Rattle.mq_rules.specs.Connections.{connection}
 use Rattle.mq_rules.specs.KeepAlive.{is_heard, silence}
 use Rattle.mq_rules.specs.Under.{seen}
-use Rattle.mq_evidence.specs.declared.evidence.Numbers.TheVariants.{Two}
+use Rattle.mq_rules.specs.declared.evidence.Numbers.TheVariants.{Two}
 use Rattle.mq_evidence.specs.declared.hearing.Heard.{Heard}
 use Rattle.mq_evidence.proofs.HandshakeLaws.{same-parts}
 use Rattle.mq_evidence.proofs.HearingLaws.{heard-position, heard-since}

@@ -5,7 +5,7 @@ use Rattle.mq_rules.specs.Moments.{latest, newest}
 use Rattle.mq_rules.specs.Connections.{connection}
 use Rattle.mq_rules.specs.KeepAlive.{server_limit, is_heard, silence}
 use Rattle.mq_rules.specs.Under.{seen}
-use Rattle.mq_evidence.specs.declared.evidence.Numbers.TheVariants.{Two}
+use Rattle.mq_rules.specs.declared.evidence.Numbers.TheVariants.{Two}
 use Rattle.mq_evidence.specs.Evidence.{it_with}
 use Rattle.mq_evidence.proofs.hearing.Hearing.of_server.Goals as goal
 

@@ -1,5 +1,5 @@
 use Rattle.std.proofs.Common.{ap, None}
-use Rattle.mq_evidence.specs.declared.evidence.Numbers.TheVariants.{One}
+use Rattle.mq_rules.specs.declared.evidence.Numbers.TheVariants.{One}
 use Rattle.mq_evidence.proofs.subscriptions.Subscriptions.of_unasked.Goals as goal
 
 pub returns : goal.returns

@@ -4,7 +4,7 @@ use Rattle.std.specs.Option.{option_or}
 use Rattle.mq_rules.specs.Words.{only}
 use Rattle.mq_rules.specs.Moments.{newest, latest, position, some}
 use Rattle.mq_rules.specs.Under.{seen}
-use Rattle.mq_evidence.specs.declared.evidence.Numbers.TheVariants.{Nothing}
+use Rattle.mq_rules.specs.declared.evidence.Numbers.TheVariants.{Nothing}
 use Rattle.mq_evidence.specs.Exchange.{exchange_of}
 use Rattle.mq_evidence.specs.Evidence.{it, end_of_asked, some_session}
 use Rattle.mq_evidence.specs.Stretches.{stretches, has_id}

@@ -3,7 +3,7 @@ use Rattle.mq_rules.specs.Moments.{newest}
 use Rattle.mq_rules.specs.Under.{seen}
 use Rattle.mq_rules.specs.Notes.{sent_as, success_pubcomp_in}
 use Rattle.mq_rules.specs.Releases.{first_brought}
-use Rattle.mq_evidence.specs.declared.evidence.Numbers.TheVariants.{Nothing}
+use Rattle.mq_rules.specs.declared.evidence.Numbers.TheVariants.{Nothing}
 use Rattle.mq_evidence.specs.Evidence.{it}
 use Rattle.mq_evidence.specs.Stretches.{stretches}
 use Rattle.mq_evidence.proofs.TrailLaws.{by-identifier}

@@ -6,7 +6,7 @@ use Rattle.mq_rules.specs.Moments.{newest, latest, position, some}
 use Rattle.mq_rules.specs.Under.{seen}
 use Rattle.mq_rules.specs.Notes.{received_as, sent_as}
 use Rattle.mq_rules.specs.Exchanges.{pubrec_pubrel}
-use Rattle.mq_evidence.specs.declared.evidence.Numbers.TheVariants.{Nothing}
+use Rattle.mq_rules.specs.declared.evidence.Numbers.TheVariants.{Nothing}
 use Rattle.mq_evidence.specs.Evidence.{it, end_of_confirmed, refusing_pubrec_in, some_session, later}
 use Rattle.mq_evidence.specs.Stretches.{stretches, has_id}
 use Rattle.mq_evidence.proofs.ReasonLaws.{confirmed-is}

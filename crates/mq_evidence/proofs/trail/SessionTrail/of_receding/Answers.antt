@@ -3,7 +3,7 @@ use Rattle.mq_rules.specs.Moments.{newest, latest}
 use Rattle.mq_rules.specs.Under.{seen}
 use Rattle.mq_rules.specs.Notes.{resend_of}
 use Rattle.mq_rules.specs.Identifiers.{sends_pubrel, session_before}
-use Rattle.mq_evidence.specs.declared.evidence.Numbers.TheVariants.{Nothing}
+use Rattle.mq_rules.specs.declared.evidence.Numbers.TheVariants.{Nothing}
 use Rattle.mq_evidence.specs.Evidence.{it}
 use Rattle.mq_evidence.specs.Stretches.{stretches}
 use Rattle.mq_evidence.proofs.TrailLaws.{by-identifier}

@@ -4,7 +4,7 @@ use Rattle.mq_rules.specs.Words.{only}
 use Rattle.mq_rules.specs.Moments.{newest, latest, position, some}
 use Rattle.mq_rules.specs.Under.{seen}
 use Rattle.mq_rules.specs.Notes.{released_id, received_exactly_once, sent_as, ended_in}
-use Rattle.mq_evidence.specs.declared.evidence.Numbers.TheVariants.{Nothing}
+use Rattle.mq_rules.specs.declared.evidence.Numbers.TheVariants.{Nothing}
 use Rattle.mq_evidence.specs.Evidence.{it, end_of_received, some_session}
 use Rattle.mq_evidence.specs.Stretches.{stretches, has_id}
 use Rattle.mq_evidence.proofs.ReasonLaws.{received-is}

@@ -4,7 +4,7 @@ use Rattle.mq_rules.specs.Under.{seen}
 use Rattle.mq_rules.specs.Notes.{released_id}
 use Rattle.mq_rules.specs.Identifiers.{session_before}
 use Rattle.mq_rules.specs.Releases.{releases_message}
-use Rattle.mq_evidence.specs.declared.evidence.Numbers.TheVariants.{Nothing}
+use Rattle.mq_rules.specs.declared.evidence.Numbers.TheVariants.{Nothing}
 use Rattle.mq_evidence.specs.Evidence.{it}
 use Rattle.mq_evidence.specs.Stretches.{stretches}
 use Rattle.mq_evidence.proofs.TrailLaws.{by-identifier}

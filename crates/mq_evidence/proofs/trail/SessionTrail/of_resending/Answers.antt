@@ -4,7 +4,7 @@ use Rattle.mq_rules.specs.Words.{only}
 use Rattle.mq_rules.specs.Moments.{newest, latest, position}
 use Rattle.mq_rules.specs.Under.{seen}
 use Rattle.mq_rules.specs.Notes.{resend_of, opener_of, closer_of}
-use Rattle.mq_evidence.specs.declared.evidence.Numbers.TheVariants.{Nothing}
+use Rattle.mq_rules.specs.declared.evidence.Numbers.TheVariants.{Nothing}
 use Rattle.mq_evidence.specs.Evidence.{it, end_of_sent, some_session, earliest, is_connack}
 use Rattle.mq_evidence.specs.Stretches.{stretches, has_id}
 use Rattle.mq_evidence.proofs.StretchLaws.{cond-position, only-position}

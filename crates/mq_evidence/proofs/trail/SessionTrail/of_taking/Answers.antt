@@ -2,7 +2,7 @@ use Rattle.std.proofs.Common.{ap, sym, ◌∙◌, Some}
 use Rattle.mq_rules.specs.Moments.{newest}
 use Rattle.mq_rules.specs.Under.{seen}
 use Rattle.mq_rules.specs.Identifiers.{taken_by}
-use Rattle.mq_evidence.specs.declared.evidence.Numbers.TheVariants.{Nothing}
+use Rattle.mq_rules.specs.declared.evidence.Numbers.TheVariants.{Nothing}
 use Rattle.mq_evidence.specs.Evidence.{it, holder}
 use Rattle.mq_evidence.specs.Stretches.{stretches}
 use Rattle.mq_evidence.proofs.TrailLaws.{by-identifier}

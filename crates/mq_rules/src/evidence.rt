@@ -1,6 +1,6 @@
 //! What a fault conflicts with.
 ghost use Rattle.std.specs.Prelude.{◌≡◌, None};
-ghost use Rattle.mq_evidence.specs.declared.evidence.Numbers.TheVariants.{Nothing};
+ghost use Rattle.mq_rules.specs.declared.evidence.Numbers.TheVariants.{Nothing};
 
 /// At most two numbers, which a statement compares: first what is, then what is allowed.
 #[derive(Clone, Copy, Debug, PartialEq, Eq)]
