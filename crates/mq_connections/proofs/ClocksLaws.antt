@@ -1,6 +1,6 @@
 -- By what is kept of the latest connection, whether the client's silence is too long at the next event, and whether that puts a statement on times to the test.
 use Rattle.std.proofs.Common.{◌≡◌, ℕ, ◌+◌, ◌-◌, ◌<◌, Bool, true, false, cond, ◌&&◌, ◌||◌, not, ◌⊎◌, inl, inr, length, List, [], ◌∷◌, Option, Some, None, option_map, refl, ap, sym, subst, ◌∙◌, arith}
-use Rattle.std.specs.Prelude.{is_none, is_some, nat_lt, unwrap_or, ◌==◌}
+use Rattle.std.specs.Prelude.{is_none, is_some, nat_lt, unwrap_or}
 use Rattle.std.specs.Option.{option_or}
 use denote.Enum.Bare.{same_true}
 use Rattle.mq_rules.specs.declared.role.Role.{Role}
@@ -13,12 +13,11 @@ use Rattle.mq_rules.specs.declared.rule.Rule.TheVariants.{W01, K01, K02}
 use Rattle.mq_rules.specs.declared.fate.Fate.{Fate}
 use Rattle.mq_rules.specs.declared.fate.Fate.TheVariants.{Void}
 use Rattle.mq_rules.specs.declared.note.Seen.{Seen}
-use Rattle.mq_rules.specs.declared.packet_note.ConnackNote.{ConnackNote}
 use Rattle.mq_rules.specs.declared.packet_note.ConnectNote.{ConnectNote}
 use Rattle.mq_connections.specs.declared.clocks.Clocks.{Clocks}
 use Rattle.mq_connections.specs.declared.clocks.ClocksPlaces.{ClocksPlaces}
 use Rattle.mq_rules.specs.Notes.{connack_of, connect_of, is_open}
-use Rattle.mq_rules.specs.Moments.{Moment, newest, note, some, since, latest, first_found, first_given}
+use Rattle.mq_rules.specs.Moments.{Moment, newest, note, since, latest, first_given}
 use Rattle.mq_rules.specs.Connections.{connection, first_connack, first_connect}
 use Rattle.mq_rules.specs.KeepAlive.{applies_K01, applies_K02, breaks_K01, breaks_K02, client_item, client_limit, cuts_packet, ends_listening, half, is_heard, is_listened_to, is_longer, keep_alive, keep_alive_by, one_and_a_half, server_limit, silence, takes_time, time}
 use Rattle.mq_rules.specs.Rules.{binds, found_line, is_on_times, line_of, lines, same_rule}
@@ -28,7 +27,7 @@ use Rattle.mq_rules.specs.Under.{Follows}
 use Rattle.mq_rules.specs.Growing.{added, at_place, Gains, GainsWithin, Judges, JudgesWithin, news}
 use Rattle.mq_rules.specs.Occasions.{occasion, places}
 use Rattle.mq_connections.specs.Finding.{is_among}
-use Rattle.mq_connections.specs.Clocks.{answered, clock, clock_after, clock_verdicts, finds_silence, goes_beyond, hears, is_too_long, limit, nothing_heard, silence_at, tries_K01, tries_K02, tries_silence, CountsClocks, IsClocks}
+use Rattle.mq_connections.specs.Clocks.{clock, clock_after, clock_verdicts, finds_silence, goes_beyond, hears, is_too_long, limit, nothing_heard, silence_at, tries_K01, tries_K02, tries_silence, CountsClocks, IsClocks}
 use Rattle.mq_rules.specs.FaultKeys.{FaultMap, fault_at}
 use Rattle.mq_rules.proofs.Exports.{and_false, connection-newest, first_found-next, gains_nothing, places-most, places-past, places-start, places-unbound, some-next}
 use Rattle.mq_connections.proofs.FindLaws.{among-picked, found_news, past_says, pick, picked, client, server}

@@ -2,7 +2,7 @@
 //!
 //! Of the latest connection the Keep Alive is kept, when the client was last heard, and whether its
 //! silence was found to be too long since then.
-ghost use Rattle.std.specs.Prelude.{◌≡◌, ◌+◌, ◌<◌, ◌==◌, ◌&&◌, ◌||◌, not, nat_lt, [], cond, List, Option, Some, None, OnOk, OnErr, option_map, is_some, unwrap_or};
+ghost use Rattle.std.specs.Prelude.{◌≡◌, ◌+◌, ◌<◌, ◌==◌, ◌&&◌, ◌||◌, not, [], cond, List, Option, Some, None, OnOk, OnErr, option_map, is_some, unwrap_or};
 ghost use Rattle.std.specs.Option.{option_and_then};
 ghost use Rattle.mq_rules.specs.declared.role.Tested.{Tested as TheTested};
 ghost use Rattle.mq_rules.specs.declared.fate.Fate.{Fate as TheFate};
@@ -23,14 +23,8 @@ use crate::conn::{Verdict, judge_each};
 use mq_log::Place3;
 use mq_rules::{
     Bare, Brisk, ConnackNote, Faults, ItemNote, Memory, Note, Role, Rule, Tested, Watch,
-    places_after, step_apart,
+    client_limit, is_large, places_after, server_limit, step_apart,
 };
-
-/// A second, in microseconds.
-const SECOND: u64 = 1_000_000;
-
-/// The size of the largest item that takes no time of its own, in bytes.
-const LARGEST: u32 = 65_536;
 
 /// What is kept of the latest connection.
 #[derive(Clone, Copy, Debug, PartialEq, Eq)]
@@ -168,10 +162,9 @@ fn heard_after(opens: bool, hears: bool, heard: Option<u64>, now: u64) -> Option
 fn limit(role: Role, seconds: u16) -> u64
     ensures { result ≡ keeping.limit role seconds }
 {
-    let seconds = u64::from(seconds);
     match role {
-        Role::Client => seconds * 1_250_000 + SECOND,
-        Role::Server => seconds * 1_500_000 + (seconds * 500_000).max(5 * SECOND),
+        Role::Client => client_limit(seconds),
+        Role::Server => server_limit(seconds),
     }
 }
 
@@ -282,17 +275,17 @@ fn has_large(item: Option<&ItemNote>) -> bool
     ensures { result ≡ is_some_and words.is_large_item (option_map (λ item. item.now) item.entry) }
 {
     match item {
-        Some(item) => is_large(item),
+        Some(item) => is_large_item(item),
         None => false,
     }
 }
 
 // Whether an item is large.
-fn is_large(item: &ItemNote) -> bool
+fn is_large_item(item: &ItemNote) -> bool
     ensures { result ≡ words.is_large_item item.now }
 {
     match item {
-        ItemNote::Packet(packet) => LARGEST < packet.size,
+        ItemNote::Packet(packet) => is_large(u64::from(packet.size)),
         ItemNote::Bad { is_large, .. } => *is_large,
         ItemNote::Lost => false,
     }

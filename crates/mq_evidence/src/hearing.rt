@@ -18,7 +18,7 @@ ghost use Rattle.mq_evidence.specs.Hearing.{IsHearing, silence_evidence};
 use crate::because::it_with;
 use crate::handshake::is_connack;
 use mq_log::Place3;
-use mq_rules::{ConnackNote, Evidence, Note, Numbers, Role};
+use mq_rules::{ConnackNote, Evidence, Note, Numbers, Role, client_limit, server_limit};
 
 /// The Reason Code of a CONNACK that accepts the connection (MQTT 5.0, section 3.2.2.2).
 const SUCCESS: u8 = 0x00;
@@ -119,23 +119,6 @@ fn heard_after(opens: bool, hears: bool, at: Place3, old: Option<Heard>) -> Opti
         });
     }
     if opens { None } else { old }
-}
-
-// For how long a client may be silent, in microseconds, by its Keep Alive in seconds: 1.25 times
-// that, and a second, since timers are late.
-fn client_limit(seconds: u16) -> u64
-    ensures { result ≡ keeping.client_limit seconds }
-{
-    u64::from(seconds) * 1_250_000 + 1_000_000
-}
-
-// For how long a server may leave it at that: one and a half times the Keep Alive, and half of it
-// or 5 seconds, whichever is longer, since servers look now and then.
-fn server_limit(seconds: u16) -> u64
-    ensures { result ≡ keeping.server_limit seconds }
-{
-    let half = u64::from(seconds) * 500_000;
-    u64::from(seconds) * 1_500_000 + half.max(5_000_000)
 }
 
 impl Hearing {

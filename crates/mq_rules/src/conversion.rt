@@ -17,6 +17,7 @@ ghost use Rattle.mq_rules.specs.declared.packet_note.PacketFields.TheVariants as
 ghost use Rattle.mq_rules.specs.Notes.{only_list, is_sent_direction, begins_acknowledged, cuts_acknowledged, will_note, connect_note, connack_note, publish_note, disconnect_note, wishes_note, packet_fields, explaining_list, uses_alias, expires_if_received, packet_note, item_note, note_of, request_fields, answer_fields, noted_method, keeps_text, item_keeps_text, note_keeps_text};
 
 use crate::faults::Memory;
+use crate::keep_alive::is_large;
 use crate::method::Method;
 use crate::note::{ItemNote, Note};
 use crate::packet_note::{
@@ -28,9 +29,6 @@ use mq_log::{Direction, Event, Item};
 use mq_packet::{Answer, Codes, Connack, Connect, Packet, Publish, ReasonPacket, Request, Will};
 use mq_props::Props;
 use std::alloc::Global;
-
-/// The most bytes of a packet that isn't large: one of more takes its time.
-const LARGE: usize = 65_536;
 
 // Whether there is a text.
 #[inline]
@@ -543,7 +541,7 @@ impl ItemNote {
                 first: first_of(bytes),
                 rule: *rule,
                 at: *at,
-                is_large: bytes.len() > LARGE,
+                is_large: is_large(bytes.len() as u64),
             }),
             Item::Lost => Ok(ItemNote::Lost),
         }

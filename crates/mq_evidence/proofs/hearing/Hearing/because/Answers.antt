@@ -1,4 +1,4 @@
-use Rattle.std.proofs.Common.{ap, sym, ◌∙◌}
+use Rattle.std.proofs.Common.{ap, ◌∙◌}
 use Rattle.std.specs.Prelude.{option_map, unwrap_or, ◌-◌}
 use Rattle.mq_rules.specs.Moments.{latest, position, newest}
 use Rattle.mq_rules.specs.Connections.{connection}

@@ -1,11 +1,11 @@
-use Rattle.std.proofs.Common.{◌≡◌, ap, sym, ◌∙◌, ◌&&◌, ◌||◌, not, cond, ◌∷◌, None, Some, Option, ℕ, Bool}
+use Rattle.std.proofs.Common.{◌≡◌, ap, sym, ◌∙◌, ◌&&◌, ◌||◌, not, cond, None, Some, Option, ℕ}
 use Rattle.std.specs.Prelude.{is_some, option_map, unwrap_or, ◌==◌}
 use Rattle.std.specs.Option.{option_or}
 use Rattle.mq_rules.specs.declared.role.Role.{Role}
 use Rattle.mq_rules.specs.declared.packet_note.ConnectNote.{ConnectNote}
 use Rattle.mq_rules.specs.declared.packet_note.ConnackNote.{ConnackNote}
 use Rattle.mq_rules.specs.Notes.{is_open, connect_of, connack_of}
-use Rattle.mq_rules.specs.Moments.{newest, latest, first_given}
+use Rattle.mq_rules.specs.Moments.{newest, first_given}
 use Rattle.mq_rules.specs.Connections.{connection}
 use Rattle.mq_rules.specs.KeepAlive.{client_item, is_heard, keep_alive_by}
 use Rattle.mq_rules.specs.Under.{seen}
