@@ -14,7 +14,7 @@ use Rattle.mq_choice.specs.declared.choice.Choice.{Choice}
 use Rattle.mq_choice.specs.Choices.{in_choice, is_listed}
 use Rattle.mq_rules.specs.Weights.{in_word}
 use Rattle.mq_rules.specs.Notes.{seen_in}
-use Rattle.mq_books.specs.Burden.{burden}
+use Rattle.mq_watchers.specs.Burden.{burden}
 use Rattle.mq_judge.specs.Judging.{Knows, Follows, AreFaultsOf}
 use Rattle.mq_judge.specs.Watching.{watchers_weigh}
 use Rattle.mq_ffi.specs.declared.asking.Which.{Which}

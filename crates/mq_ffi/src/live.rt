@@ -1,6 +1,6 @@
 //! A judge that is told what happens while it happens.
 ghost use Rattle.std.specs.Prelude.{◌≡◌, ◌≤◌, ◌*◌, ℕ, List, []};
-ghost use Rattle.mq_books.specs.Burden.{burden};
+ghost use Rattle.mq_watchers.specs.Burden.{burden};
 ghost use Rattle.mq_judge.specs.Judging.{Knows, Follows, AreFaultsOf};
 ghost use Rattle.mq_judge.specs.Watching.{watchers_weigh};
 ghost use Rattle.mq_rules.specs.Weights.{in_word};

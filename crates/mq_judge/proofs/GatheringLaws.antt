@@ -26,7 +26,7 @@ use Rattle.std.specs.List.{list_any}
 use Rattle.mq_rules.specs.Subscriptions.{asks_to_share, is_shared}
 use Rattle.mq_rules.specs.Under.{seen}
 use Rattle.mq_rules.proofs.Exports.{latest_fate-same, option_or-none, some-next}
-use Rattle.mq_books.specs.Pingings.{ends_by}
+use Rattle.mq_fates.specs.Taking.{ends_by}
 use Rattle.mq_report.specs.declared.report.unjudged.Gap.{Gap}
 use Rattle.mq_report.specs.declared.report.unjudged.Gap.TheVariants.{UnknownSession, UndecidedSession, NoRest}
 use Rattle.mq_judge.specs.Unjudged.{place, lost_at, is_unknown, turns_unknown, shown_at, with_last, shown_in, latest_open, first_sharing, shared_by, shared_in, unrested_in, unreleased, unfinished_of, with_unfinished, with_dropped, with_whole}

@@ -1,5 +1,5 @@
 //! The judge: it is fed a log, in any pieces, and returns the verdict on it.
-ghost use Rattle.mq_books.specs.Burden.{burden};
+ghost use Rattle.mq_watchers.specs.Burden.{burden};
 ghost use Rattle.std.specs.Prelude.{◌≡◌, true, false, cond, ◌≤◌, ◌*◌, ℕ, List, [], nat_lt, length, Some, None, Err, IfErr, IfOk, IfSome, OnOk, if◌then◌else◌};
 ghost use Rattle.mq_choice.specs.Choices.{in_choice, wants_further};
 ghost use Rattle.mq_judge.specs.Coverage.{places_in, coverage_of};

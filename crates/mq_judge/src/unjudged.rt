@@ -14,10 +14,11 @@ ghost use Rattle.mq_judge.specs.Unjudged.{lost_at, shown_in, with_whole};
 ghost use Rattle.mq_judge.specs.Gathering.{Gathers};
 
 use super::shown::{Shown, add};
-use mq_books::{asks_for_shared, ended_after};
+use mq_fates::ended_after;
 use mq_log::{Direction, Place3};
 use mq_report::Gap;
 use mq_rules::{Fate, ItemNote, Memory, Note, Role, Tested};
+use mq_subscriptions::asks_for_shared;
 use std::alloc::Global;
 
 /// What isn't judged of the events so far, by their notes.

@@ -1,6 +1,6 @@
 //! Judging each event as it comes.
 ghost use Rattle.std.specs.Prelude.{◌≡◌, ◌∷◌, ◌+◌, [], ℕ, Bool, true, cond, Option, None, Some, List, length, map, ◌≤◌, ◌*◌, IfOk, IfSome, OnOk, OnErr};
-ghost use Rattle.mq_books.specs.Burden.{burden};
+ghost use Rattle.mq_watchers.specs.Burden.{burden};
 ghost use Rattle.mq_watchers.specs.Kinds.{is_counting as counts};
 ghost use Rattle.mq_rules.specs.declared.note.Seen.{Seen as TheSeen};
 ghost use Rattle.mq_packet.specs.Reading.{view};

@@ -13,7 +13,7 @@ use Rattle.mq_rules.specs.Connections.{number, fate, latest_fate, is_beside, is_
 use Rattle.mq_rules.specs.Statements.{Statement, on_bytes, on_past, in_session, at_release, at_rest, by_later, statement, breaks_bytes, is_so, is_so_under, where_accepted, fails}
 use Rattle.mq_rules.specs.Rules.{binds}
 use Rattle.mq_rules.proofs.Exports.{both_true, moment-beginning, moment-within}
-use Rattle.mq_books.specs.Holding.{settled, IsSettled}
+use Rattle.mq_fates.specs.Holding.{settled, IsSettled}
 use Rattle.mq_rules.specs.Evidence.{nothing}
 use Rattle.mq_evidence.specs.Evidence.{evidence, found, reason}
 use Rattle.mq_evidence.specs.Turning.{evidence_under}

@@ -13,7 +13,7 @@ ghost use Rattle.mq_trail.specs.Sources.{is_silent as silent};
 
 use crate::introducing::Introducing;
 use crate::reviewing::{Reviewing, Wanted};
-use mq_books::Early;
+use mq_fates::Early;
 use mq_rules::{Both, Evidence, Fault, FaultKey, Role, Rule, Watch};
 
 /// What a fault conflicts with, if it is one that was to be explained, of a statement whose

@@ -7,8 +7,8 @@ ghost use Rattle.mq_rules.specs.Notes.{note_of_bare};
 ghost use Rattle.mq_rules.specs.Under.{seen, IsUnder, fate_before};
 ghost use Rattle.mq_evidence.specs.Trailing.{IsExplaining};
 
-use mq_books::{Fated, Taken};
 use mq_evidence::Explaining;
+use mq_fates::{Fated, Taken};
 use mq_log::Place3;
 use mq_rules::{Bare, Fate, Faults, Memory, NoteRef, Noted};
 use std::marker::{Brand, PhantomData};

@@ -10,7 +10,7 @@ ghost use Rattle.mq_trail.specs.Until.{HasSeenUntil, is_decided_after};
 
 use crate::following::Follower;
 use crate::reviewing::{Reviewing, Wanted};
-use mq_books::Early;
+use mq_fates::Early;
 use mq_log::Place3;
 use mq_rules::{Bare, Both, Brisk, Faults, Memory, Note, Watch, step_apart};
 use std::marker::PhantomData;

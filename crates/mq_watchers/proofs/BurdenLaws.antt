@@ -21,11 +21,12 @@ use Rattle.mq_rules.specs.Subscriptions.{topic_set, last_set}
 use Rattle.mq_rules.specs.Rules.{line_of, found_line, lines, binds_end}
 use Rattle.mq_rules.specs.Burden.{sets_another, aliases_sent}
 use Rattle.mq_rules.proofs.Exports.{connection-newest, or_false}
-use Rattle.mq_books.specs.Requesting.{binds_requests}
-use Rattle.mq_books.specs.Holding.{settled}
+use Rattle.mq_exchanges.specs.Requesting.{binds_requests}
+use Rattle.mq_fates.specs.Holding.{settled}
 use Rattle.mq_rules.specs.IdentifierCounts.{ids_where}
-use Rattle.mq_books.specs.Burden.{aliased_ids, aliases_undecided}
-use Rattle.mq_books.proofs.Exports.{ids-listed}
+use Rattle.mq_subscriptions.specs.Burden.{aliased_ids}
+use Rattle.mq_watchers.specs.Burden.{aliases_undecided}
+use Rattle.mq_fates.proofs.Exports.{ids-listed}
 
 -- ---- exchanges
 

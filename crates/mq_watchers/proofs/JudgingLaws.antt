@@ -25,8 +25,8 @@ use Rattle.mq_rules.proofs.Exports.{and_false, beginning, fault_in-start, fault_
 use Rattle.mq_rules.specs.Under.{is_by_session, is_on_session, IsInTurn, Follows}
 use Rattle.mq_rules.specs.Growing.{added, Gains, GainsWithin, news, GrowsBy, GrowsByWithin}
 use Rattle.mq_watchers.specs.Judging.{IsWhole}
-use Rattle.mq_books.specs.Holding.{turns_session}
-use Rattle.mq_books.specs.Grouping.{of_sessions}
+use Rattle.mq_fates.specs.Holding.{turns_session}
+use Rattle.mq_watchers.specs.Grouping.{of_sessions}
 
 tails : (P : List Seen → Type 0) → ((e : Seen) (past : List Seen) → P (e ∷ past) → P past) → (later past : List Seen) → P (reverse_aux later past) → P past
 tails P tail [] past h = h

@@ -1,2 +1,4 @@
+pub mod Burden
+pub mod Grouping
 pub mod Kinds
 pub mod Judging

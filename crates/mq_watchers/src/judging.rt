@@ -9,7 +9,8 @@ ghost use Rattle.mq_rules.specs.Faults.{Grows, GrowsWithin};
 ghost use Rattle.mq_rules.specs.Under.{is_on_session, IsInTurn};
 ghost use Rattle.mq_watchers.specs.Judging.{IsWhole};
 
-use mq_books::{Early, Sessions};
+use crate::sessions::Sessions;
+use mq_fates::Early;
 use mq_rules::{Faults, Memory, Seen, Tested, Watch};
 use std::alloc::Global;
 

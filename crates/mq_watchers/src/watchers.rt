@@ -11,7 +11,7 @@ ghost use Rattle.mq_rules.specs.Growing.{Gains, GainsWithin};
 ghost use Rattle.mq_rules.specs.Occasions.{places};
 ghost use Rattle.mq_rules.specs.Statements.{is_on_bytes};
 ghost use Rattle.mq_rules.specs.Steps.{turns};
-ghost use Rattle.mq_books.specs.Burden.{burden};
+ghost use Rattle.mq_watchers.specs.Burden.{burden};
 ghost use Rattle.mq_watchers.specs.Kinds.{AgreesByKind, weighs_by_kind, is_counting as counts};
 
 mod counting;

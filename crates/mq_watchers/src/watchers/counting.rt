@@ -8,10 +8,11 @@ ghost use Rattle.mq_rules.specs.Connections.{IsOnConnection, latest_fate};
 ghost use Rattle.mq_rules.specs.Occasions.{places};
 ghost use Rattle.mq_rules.specs.Statements.{is_on_bytes};
 ghost use Rattle.mq_rules.specs.Steps.{turns};
-ghost use Rattle.mq_books.specs.Burden.{burden};
+ghost use Rattle.mq_watchers.specs.Burden.{burden};
 
-use mq_books::{Asks, Counting, Early, Sessions};
+use crate::sessions::Sessions;
 use mq_connections::{CountingClocks, CountingConn, CountingDuties, CountingManners, Shapes};
+use mq_fates::{Asks, Counting, Early};
 use mq_log::Place3;
 use mq_rules::{Bare, Both, Brisk, Fate, Faults, Memory, Note, Rule, Tested, Watch};
 use std::alloc::Global;

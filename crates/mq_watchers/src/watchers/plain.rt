@@ -6,10 +6,11 @@ ghost use Rattle.mq_rules.specs.declared.role.Tested.{Tested as TheTested};
 ghost use Rattle.mq_rules.specs.declared.note.Seen.{Seen as TheSeen};
 ghost use Rattle.mq_rules.specs.Connections.{IsOnConnection, latest_fate};
 ghost use Rattle.mq_rules.specs.Steps.{turns};
-ghost use Rattle.mq_books.specs.Burden.{burden};
+ghost use Rattle.mq_watchers.specs.Burden.{burden};
 
-use mq_books::{Early, Sessions};
+use crate::sessions::Sessions;
 use mq_connections::{Clocks, Conn, Duties, Manners, Shapes};
+use mq_fates::Early;
 use mq_log::Place3;
 use mq_rules::{Bare, Both, Brisk, Fate, Faults, Memory, Note, Tested, Watch};
 use std::alloc::Global;

@@ -2,9 +2,10 @@ use Rattle.std.proofs.Common.{arith}
 use Rattle.mq_rules.specs.declared.rule.Rule.TheVariants.{E1R, E2R, E3R, E4R}
 use Rattle.mq_rules.specs.Connections.{latest_fate}
 use Rattle.mq_rules.specs.Exchanges.{publish_puback, publish_pubrec, pubrec_pubrel, pubrel_pubcomp, subscribe_suback, unsubscribe_unsuback}
-use Rattle.mq_books.specs.Holding.{settled}
-use Rattle.mq_books.specs.Burden.{caused_ids, burden}
-use Rattle.mq_books.proofs.Exports.{unanswered-within}
+use Rattle.mq_fates.specs.Holding.{settled}
+use Rattle.mq_exchanges.specs.Burden.{caused_ids}
+use Rattle.mq_watchers.specs.Burden.{burden}
+use Rattle.mq_subscriptions.proofs.Exports.{unanswered-within}
 use Rattle.mq_watchers.proofs.BurdenLaws.{bindings, bound-counted, requests-within, aliased-within, aliases-once}
 use Rattle.mq_watchers.proofs.watchers.plain.PlainWatchersWatch.weight.Goals as goal
 

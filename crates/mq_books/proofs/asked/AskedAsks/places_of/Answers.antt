@@ -1,5 +1,0 @@
-use Rattle.mq_books.proofs.CountingLaws.{places-same}
-use Rattle.mq_books.proofs.asked.AskedAsks.places_of.Goals as goal
-
-pub returns : goal.returns
-returns g c = λ tested taken past is same. places-same tested taken past g.X.Exchange.asked c.args.arg2 c.args.places.now is same

@@ -1,7 +1,0 @@
-use Rattle.std.specs.Prelude.{reverse}
-use Rattle.mq_books.proofs.EarlyFailsLaws.{failed-settled}
-use Rattle.mq_books.proofs.early.Early.watcher.Goals as goal
-
-pub returns-clause-failed : goal.returns-clause-failed
-returns-clause-failed g c = λ tested taken past k r holds on h.
-    failed-settled tested (reverse c.args.self.now.held.items) past k r holds.joined holds.are_held on h

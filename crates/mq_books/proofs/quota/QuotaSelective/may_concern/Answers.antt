@@ -1,6 +1,0 @@
-use Rattle.std.proofs.Common.{sym, ◌∙◌}
-use Rattle.mq_books.proofs.SelectingLaws.{quota-unconcerned}
-use Rattle.mq_books.proofs.quota.QuotaSelective.may_concern.Goals as goal
-
-pub returns : goal.returns
-returns g c = λ h tested taken past agree. quota-unconcerned tested.role tested.releases tested.further (g.E.Noted.note c.args.event.now) (sym c.may_concern_quota.ensures ∙ h)

@@ -1,6 +1,0 @@
-use Rattle.std.proofs.Common.{sym}
-use Rattle.mq_books.proofs.BareLaws.{bare-unended}
-use Rattle.mq_books.proofs.taken.BareTaken.ends.Goals as goal
-
-pub returns : goal.returns
-returns c = sym (bare-unended c.args.self.now)

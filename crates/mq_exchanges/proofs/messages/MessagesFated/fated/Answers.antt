@@ -1,0 +1,11 @@
+use Rattle.std.proofs.Common.{sym}
+use Rattle.mq_exchanges.proofs.messages.MessagesFated.fated.Goals as goal
+
+pub returns-clause-agrees : goal.returns-clause-agrees
+returns-clause-agrees g c = rw (sym c.as_ref-event.ensures) c.fated_apart.ensures.agrees
+
+pub returns-clause-grows : goal.returns-clause-grows
+returns-clause-grows g c = rw (sym c.as_ref-event.ensures) c.fated_apart.ensures.grows
+
+pub returns-clause-memory : goal.returns-clause-memory
+returns-clause-memory g c = rw (sym c.as_ref-event.ensures) c.fated_apart.ensures.memory

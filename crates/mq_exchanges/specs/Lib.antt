@@ -1,0 +1,12 @@
+pub mod Pingings
+pub mod Owings
+pub mod Orderings
+pub mod Answering
+pub mod Askings
+pub mod Releasing
+pub mod Receiving
+pub mod Grouping
+pub mod Requesting
+pub mod Concerns
+pub mod Burden
+pub mod Weights

@@ -1,0 +1,23 @@
+pub mod QuotaLaws
+pub mod UsingLaws
+pub mod ValuesLaws
+pub mod VoidLaws
+pub mod EarlierLaws
+pub mod OpenedLaws
+pub mod StrayLaws
+pub mod BrokenLaws
+pub mod DueLaws
+pub mod PlacesLaws
+pub mod AgainLaws
+pub mod ResendsLaws
+pub mod InflightLaws
+pub mod ConcernLaws
+pub mod UsingConcernLaws
+pub mod LeftOutLaws
+mod MovedPlacesLaws
+pub mod MovingLaws
+pub mod SelectingLaws
+pub mod PassingLaws
+pub mod TriedLaws
+pub mod ResumedLaws
+pub mod ResumingLaws

@@ -1,0 +1,9 @@
+use Rattle.std.proofs.Common.{◌≡◌}
+use Rattle.std.specs.List.{list_any}
+use Rattle.mq_rules.specs.KeptOrder.{value_under, values_of}
+use Rattle.mq_inflight.specs.Resending.{is_due}
+use Rattle.mq_inflight.proofs.inflight.resends.any_due.Given as goal
+
+-- the answer was no for those that have been passed
+abbrev pub invariant-loop-entry : goal.invariant-loop-entry
+invariant-loop-entry l = list_any (is_due l.fn.opened l.fn.excused) l.entry-iterator ≡ list_any (is_due l.fn.opened l.fn.excused) (values_of (value_under l.fn.entries))

@@ -1,0 +1,12 @@
+pub mod Quotas
+pub mod Using
+pub mod Earlier
+pub mod Moving
+pub mod Opened
+pub mod Resending
+pub mod Concerns
+pub mod Burden
+pub mod Weights
+pub mod Tried
+pub mod Resumings
+pub mod InflightPlaces

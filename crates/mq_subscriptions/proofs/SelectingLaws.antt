@@ -1,0 +1,117 @@
+-- What may concern a group of watchers is all that concerns one of them.
+use Rattle.std.proofs.Common.{◌≡◌, ℕ, ◌==◌, Bool, true, false, ◌&&◌, ◌||◌, not, length, refl, ap, sym, ◌∙◌}
+use Rattle.std.specs.Prelude.{is_some}
+use Rattle.mq_rules.specs.declared.role.Tested.{Tested}
+use Rattle.mq_rules.specs.declared.rule.Rule.TheVariants.{B01, B05}
+use Rattle.mq_rules.specs.declared.note.Note.{Note}
+use Rattle.mq_rules.specs.declared.note.Note.TheVariants as notes
+use Rattle.mq_rules.specs.declared.note.ItemNote.TheVariants as items
+use Rattle.mq_rules.specs.declared.packet_note.PacketFields.{PacketFields}
+use Rattle.mq_rules.specs.declared.packet_note.PacketFields.TheVariants.{Connect, Connack, Publish, Puback, Pubrec, Pubrel, Pubcomp, Subscribe, Suback, Unsubscribe, Unsuback, Pingreq, Pingresp, Disconnect, Auth}
+use Rattle.mq_rules.specs.declared.packet_note.PublishNote.{PublishNote}
+use Rattle.mq_rules.specs.Words.{only}
+use Rattle.mq_log.specs.declared.kind.Direction.{Direction}
+use Rattle.mq_log.specs.declared.kind.Direction.TheVariants.{Sent, Recv}
+use Rattle.mq_rules.specs.declared.bare.Bare.{Bare}
+use Rattle.mq_rules.specs.declared.bare.BareFields.{BareFields}
+use Rattle.mq_rules.specs.declared.bare.BareFields.TheVariants as bares
+use Rattle.mq_rules.specs.Notes.{bare_note, bare_fields, note_of_bare}
+use Rattle.mq_rules.specs.Rules.{binds}
+use Rattle.mq_rules.proofs.Exports.{and_false}
+use Rattle.mq_subscriptions.specs.Concerns.{concerns_count, concerns_deliveries, concerns_grants}
+use Rattle.mq_subscriptions.specs.Countings.{subscribes, unsubscribes}
+use Rattle.mq_fates.specs.Selecting.{may_concern_subscriptions, delivers_or_grants, subscribes_or_not}
+use Rattle.mq_fates.proofs.Exports.{neither, nothing, only-none, received, sent}
+
+-- ---- subscriptions
+
+undelivered : (tested : Tested) (bound : Bool) → bound ≡ binds B01 tested → (size : ℕ) (a b : Bool) (p : PublishNote) → delivers_or_grants bound (Publish p) ≡ false → (concerns_deliveries tested (sent size a b (Publish p)) || (concerns_count subscribes (sent size a b (Publish p)) || concerns_count unsubscribes (sent size a b (Publish p)))) ≡ false
+undelivered tested bound is size a b p h =
+    let parts = neither bound (is_some p.topic_alias) h in
+    ap (λ o. (is_some (only (not (length p.topic == 0)) o) || binds B01 tested) || false) (nothing p.topic_alias parts.1)
+    ∙ ap (λ o. (is_some o || binds B01 tested) || false) (only-none {A = ℕ} (not (length p.topic == 0)))
+    ∙ ap (λ t. t || false) (sym is ∙ parts.0)
+
+subscriptions-sent : (tested : Tested) (bound : Bool) → bound ≡ binds B01 tested → (size : ℕ) (a b : Bool) (fields : PacketFields) → delivers_or_grants bound fields ≡ false → (concerns_deliveries tested (sent size a b fields) || (concerns_count subscribes (sent size a b fields) || concerns_count unsubscribes (sent size a b fields))) ≡ false
+subscriptions-sent tested bound is size a b (Connect note method) h = refl
+subscriptions-sent tested bound is size a b (Connack note method) h = refl
+subscriptions-sent tested bound is size a b (Publish p) h = undelivered tested bound is size a b p h
+subscriptions-sent tested bound is size a b (Puback i c) h = refl
+subscriptions-sent tested bound is size a b (Pubrec i c) h = refl
+subscriptions-sent tested bound is size a b (Pubrel i c) h = refl
+subscriptions-sent tested bound is size a b (Pubcomp i c) h = refl
+subscriptions-sent tested bound is size a b (Subscribe i fs ws) h = refl
+subscriptions-sent tested bound is size a b (Suback i cs) h = absurd (cc)
+subscriptions-sent tested bound is size a b (Unsubscribe i c) h = refl
+subscriptions-sent tested bound is size a b (Unsuback i c) h = absurd (cc)
+subscriptions-sent tested bound is size a b Pingreq h = refl
+subscriptions-sent tested bound is size a b Pingresp h = refl
+subscriptions-sent tested bound is size a b (Disconnect note) h = refl
+subscriptions-sent tested bound is size a b (Auth method) h = refl
+
+subscriptions-received : (tested : Tested) (bound : Bool) → bound ≡ binds B01 tested → (size : ℕ) (a b : Bool) (fields : PacketFields) → subscribes_or_not fields ≡ false → (concerns_deliveries tested (received size a b fields) || (concerns_count subscribes (received size a b fields) || concerns_count unsubscribes (received size a b fields))) ≡ false
+subscriptions-received tested bound is size a b (Connect note method) h = refl
+subscriptions-received tested bound is size a b (Connack note method) h = refl
+subscriptions-received tested bound is size a b (Publish p) h = refl
+subscriptions-received tested bound is size a b (Puback i c) h = refl
+subscriptions-received tested bound is size a b (Pubrec i c) h = refl
+subscriptions-received tested bound is size a b (Pubrel i c) h = refl
+subscriptions-received tested bound is size a b (Pubcomp i c) h = refl
+subscriptions-received tested bound is size a b (Subscribe i fs ws) h = absurd (cc)
+subscriptions-received tested bound is size a b (Suback i cs) h = refl
+subscriptions-received tested bound is size a b (Unsubscribe i c) h = absurd (cc)
+subscriptions-received tested bound is size a b (Unsuback i c) h = refl
+subscriptions-received tested bound is size a b Pingreq h = refl
+subscriptions-received tested bound is size a b Pingresp h = refl
+subscriptions-received tested bound is size a b (Disconnect note) h = refl
+subscriptions-received tested bound is size a b (Auth method) h = refl
+
+answers-unconcerned : (tested : Tested) (bound : Bool) → bound ≡ binds B01 tested → (n : Note) → may_concern_subscriptions bound n ≡ false → (concerns_deliveries tested n || (concerns_count subscribes n || concerns_count unsubscribes n)) ≡ false
+answers-unconcerned tested bound is notes.Open h = absurd (cc)
+answers-unconcerned tested bound is (notes.Close cuts part) h = absurd (cc)
+answers-unconcerned tested bound is notes.Rest h = refl
+answers-unconcerned tested bound is (notes.Release i) h = refl
+answers-unconcerned tested bound is (notes.Sent (items.Packet p)) h = subscriptions-sent tested bound is p.size p.has_reason_string p.has_user_property p.fields h
+answers-unconcerned tested bound is (notes.Sent (items.Bad first rule at large)) h = refl
+answers-unconcerned tested bound is (notes.Sent items.Lost) h = refl
+answers-unconcerned tested bound is (notes.Recv (items.Packet p)) h = subscriptions-received tested bound is p.size p.has_reason_string p.has_user_property p.fields h
+answers-unconcerned tested bound is (notes.Recv (items.Bad first rule at large)) h = refl
+answers-unconcerned tested bound is (notes.Recv items.Lost) h = refl
+
+pub subscriptions-unconcerned : (tested : Tested) (bound : Bool) → bound ≡ binds B01 tested → (n : Note) → may_concern_subscriptions bound n ≡ false
+    → (concerns_deliveries tested n || (concerns_count subscribes n || (concerns_count unsubscribes n || concerns_grants tested n))) ≡ false
+subscriptions-unconcerned tested bound is n h = go (concerns_deliveries tested n) (concerns_count subscribes n) (concerns_count unsubscribes n) (binds B05 tested) (answers-unconcerned tested bound is n h)
+  where
+    go : (d a u b : Bool) → (d || (a || u)) ≡ false → (d || (a || (u || (b && a)))) ≡ false
+    go true a u b h = absurd (cc)
+    go false true u b h = absurd (cc)
+    go false false true b h = absurd (cc)
+    go false false false b h = and_false b
+
+-- ---- a bare packet is no SUBSCRIBE or UNSUBSCRIBE, and answers none
+
+counts-unconcerned-note : (direction : Direction) (size : ℕ) (fields : BareFields) → (concerns_count subscribes (bare_note direction size (bare_fields direction fields)) || concerns_count unsubscribes (bare_note direction size (bare_fields direction fields))) ≡ false
+counts-unconcerned-note Sent size (bares.Publish identifier qos duplicate topic) = refl
+counts-unconcerned-note Sent size (bares.Puback identifier code) = refl
+counts-unconcerned-note Sent size (bares.Pubrec identifier code) = refl
+counts-unconcerned-note Sent size (bares.Pubrel identifier code) = refl
+counts-unconcerned-note Sent size (bares.Pubcomp identifier code) = refl
+counts-unconcerned-note Sent size bares.Pingreq = refl
+counts-unconcerned-note Sent size bares.Pingresp = refl
+counts-unconcerned-note Recv size (bares.Publish identifier qos duplicate topic) = refl
+counts-unconcerned-note Recv size (bares.Puback identifier code) = refl
+counts-unconcerned-note Recv size (bares.Pubrec identifier code) = refl
+counts-unconcerned-note Recv size (bares.Pubrel identifier code) = refl
+counts-unconcerned-note Recv size (bares.Pubcomp identifier code) = refl
+counts-unconcerned-note Recv size bares.Pingreq = refl
+counts-unconcerned-note Recv size bares.Pingresp = refl
+
+pub counts-unconcerned : (b : Bare) → (concerns_count subscribes (note_of_bare b) || concerns_count unsubscribes (note_of_bare b)) ≡ false
+unfolding note_of_bare
+counts-unconcerned b = counts-unconcerned-note b.direction b.size b.fields
+
+pub asking-unconcerned : (b : Bare) → concerns_count subscribes (note_of_bare b) ≡ false
+asking-unconcerned b = (neither (concerns_count subscribes (note_of_bare b)) (concerns_count unsubscribes (note_of_bare b)) (counts-unconcerned b)).0
+
+pub grants-unconcerned : (tested : Tested) (b : Bare) → concerns_grants tested (note_of_bare b) ≡ false
+grants-unconcerned tested b = ap (λ t. binds B05 tested && t) (asking-unconcerned b) ∙ and_false (binds B05 tested)

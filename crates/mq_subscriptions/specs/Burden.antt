@@ -1,0 +1,48 @@
+-- How much a log gives the watchers of subscriptions to keep. Where an item is about a session, the latest connection of the log is taken to have a fate.
+use Rattle.std.specs.Prelude.{ℕ, zero, suc, List, [], ◌∷◌, ◌++◌, length, Option, is_some}
+use Rattle.std.specs.Set.{distinct_count}
+use Rattle.std.specs.Str.{bytes_eq}
+use Rattle.mq_rules.specs.declared.role.Role.{Role}
+use Rattle.mq_rules.specs.declared.fate.Fate.{Fate}
+use Rattle.mq_rules.specs.declared.note.Seen.{Seen}
+use Rattle.mq_rules.specs.Notes.{received_subscription}
+use Rattle.mq_rules.specs.Moments.{Moment, note, since}
+use Rattle.mq_rules.specs.IdentifierCounts.{ids_where}
+use Rattle.mq_rules.specs.Connections.{connection, on_open, session}
+use Rattle.mq_rules.specs.Exchanges.{Exchange, causes, answers}
+use Rattle.mq_rules.specs.Subscriptions.{Standing, last_set}
+use Rattle.mq_subscriptions.specs.Standings.{codes_in, standing_by, waiting_from, weighed}
+use Rattle.mq_fates.specs.Holding.{total}
+
+-- ---- what is received (MQTT 5.0, sections 3.8.4, 3.10.4 and 4.3)
+
+-- how many have a cause of the exchange on the open connection, and no answer after it there
+unfoldable pub unanswered_ids : Exchange → List Seen → ℕ
+unanswered_ids x log = ids_where (λ i. since (causes x i) (answers x i) (on_open log))
+
+-- ---- subscriptions (MQTT 5.0, sections 3.3.2.3.4, 3.8 and 3.9)
+
+abbrev pub filters_of : List Standing → List (List ℕ)
+filters_of [] = []
+filters_of (s ∷ ss) = s.filter ∷ filters_of ss
+
+-- the filters of the SUBSCRIBEs among these moments that their SUBACKs in the log don't refuse
+abbrev pub standing_filters : List Seen → List Moment → List (List ℕ)
+standing_filters log [] = []
+standing_filters log (j ∷ js) = filters_of (standing_by (codes_in log j) (received_subscription (note j))) ++ standing_filters log js
+
+-- how many different filters stand in the session
+unfoldable pub standing_count : Role → Option Fate → List Seen → ℕ
+standing_count role taken log = distinct_count bytes_eq (standing_filters log (session role taken log))
+
+abbrev pub at_least_one : ℕ → ℕ
+at_least_one zero = 1
+at_least_one (suc n) = suc n
+
+-- how many filters the SUBSCRIBEs have, counted with repeats, that were received on the open connection without a SUBACK after it there; each has at least one
+unfoldable pub asked_filters : List Seen → ℕ
+asked_filters log = total (λ j. weighed (λ w. at_least_one (length w.filters)) (waiting_from log j)) (connection log)
+
+-- how many Topic Aliases have a topic that was sent on the open connection: no more than `aliases_sent`, which counts the first PUBLISH that sets each
+unfoldable pub aliased_ids : List Seen → ℕ
+aliased_ids log = ids_where (λ alias. is_some (last_set alias (on_open log)))

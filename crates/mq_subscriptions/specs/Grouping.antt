@@ -1,0 +1,22 @@
+-- The statements on subscriptions.
+use Rattle.std.specs.Prelude.{◌≡◌, Bool, true, false, ◌&&◌, ◌||◌, not, refl}
+use Rattle.mq_rules.specs.declared.rule.Rule.{Rule}
+use Rattle.mq_rules.specs.declared.role.Role.{Role}
+use Rattle.mq_rules.specs.declared.rule.Rule.TheVariants.{W01, B01, B02, B03, B04, B05}
+use Rattle.mq_rules.specs.Rules.{same_rule}
+use Rattle.mq_rules.specs.Occasions.{occasion}
+use Rattle.mq_fates.specs.Placings.{is_on_sessions, implied}
+
+-- ---- subscriptions, as they are watched
+
+abbrev pub of_subscriptions : Rule → Bool
+of_subscriptions r = (same_rule r B01 || same_rule r B02) || (same_rule r B03 || (same_rule r B04 || same_rule r B05))
+
+-- ---- where they are put to the test
+
+subscriptions_placed : (role : Role) (r : Rule) → (of_subscriptions r && not (is_on_sessions (occasion role r))) ≡ false
+subscriptions_placed role W01 = refl
+subscriptions_placed role _ = refl
+
+pub on_subscriptions : (role : Role) (r : Rule) → of_subscriptions r ≡ true → is_on_sessions (occasion role r) ≡ true
+on_subscriptions role r = implied (of_subscriptions r) (is_on_sessions (occasion role r)) (subscriptions_placed role r)

@@ -1,0 +1,26 @@
+-- How much each watcher of sessions really keeps: the sum of the lengths of its collections, and of the numbers of values in its tables by Packet Identifiers. A text in them is one item, and its bytes aren't counted.
+use Rattle.std.specs.Prelude.{ℕ, ◌+◌, length}
+use Rattle.std.specs.List.{sum_by}
+use Rattle.indexmap.specs.IndexMap.{index_map_len}
+use Rattle.mq_rules.specs.KeptOrder.{ids_kept}
+use Rattle.mq_subscriptions.specs.declared.counts.Counts.{Counts}
+use Rattle.mq_subscriptions.specs.declared.grants.Grants.{Grants}
+use Rattle.mq_subscriptions.specs.declared.subs.Deliveries.{Deliveries}
+use Rattle.mq_subscriptions.specs.Burden.{at_least_one}
+use Rattle.mq_subscriptions.specs.Standings.{SessionFilters, waits_weight}
+
+-- the identifiers of packets without their answer
+abbrev pub counts_weighs : {R : Type 0} → Counts R → ℕ
+counts_weighs s = ids_kept s.counts
+
+-- what SUBSCRIBEs without their answer ask for: an entry for each, with what its first filter asks for, and its other filters
+abbrev pub grants_weigh : Grants → ℕ
+grants_weigh s = sum_by (λ e. at_least_one (length e.1)) s.wanted.entries
+
+-- filters: those that stand, the topics for which some were looked up, and the SUBSCRIBEs that wait, each with its filters
+abbrev pub filters_weigh : SessionFilters → ℕ
+filters_weigh f = length f.settled + f.found + sum_by waits_weight f.waiting
+
+-- deliveries: the filters, and the topics by their Topic Alias
+abbrev pub deliveries_weigh : Deliveries → ℕ
+deliveries_weigh s = filters_weigh s.filters + index_map_len s.topics
