@@ -4,7 +4,4 @@ mod commands;
 mod inquiring;
 mod large;
 mod meter;
-mod packets;
-mod printing;
 mod reviewing;
-mod showing;

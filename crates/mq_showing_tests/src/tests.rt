@@ -1,0 +1,5 @@
+//! What tasks that show something write to both outputs, and their status.
+
+mod packets;
+mod printing;
+mod showing;
