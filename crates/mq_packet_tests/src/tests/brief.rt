@@ -74,18 +74,22 @@ const OTHERS: [(u8, &[u8]); 15] = [
     (0x32, b"\x00\x01a\x00\x01"),
 ];
 
+// Whether this is read briefly, and as by the decoder of all packets.
+fn is_read_alike(first: u8, body: &[u8]) -> bool {
+    let read = fully(first, body);
+    read.is_some() && briefly(first, body) == read
+}
+
 #[test]
 fn as_by_the_decoder_of_all(rt: HostRuntime) {
     for (first, body) in &BRIEF {
-        let read = fully(*first, body);
-        assert!(rt; read.is_some(), "{first} {body:?}");
-        assert_eq!(rt; briefly(*first, body), read, "{first} {body:?}");
+        assert!(rt; is_read_alike(*first, body), "{first} {body:?}");
     }
 }
 
 #[test]
 fn none_for_others(rt: HostRuntime) {
     for (first, body) in &OTHERS {
-        assert_eq!(rt; briefly(*first, body), None, "{first} {body:?}");
+        assert!(rt; briefly(*first, body).is_none(), "{first} {body:?}");
     }
 }

@@ -52,28 +52,26 @@ fn is_written_short(alloc: Global, kind: PacketType, code: u8, bytes: &[u8]) -> 
     is_written_in_size(alloc, &packet, bytes)
 }
 
+const SHORTEST: [(PacketType, u8, &[u8]); 12] = [
+    (PacketType::Puback, 0, &[0x40, 0x02, 0x00, 0x01]),
+    (PacketType::Puback, 0x10, &[0x40, 0x03, 0x00, 0x01, 0x10]),
+    (PacketType::Pubrec, 0, &[0x50, 0x02, 0x00, 0x01]),
+    (PacketType::Pubrec, 0x80, &[0x50, 0x03, 0x00, 0x01, 0x80]),
+    (PacketType::Pubrel, 0, &[0x62, 0x02, 0x00, 0x01]),
+    (PacketType::Pubrel, 0x92, &[0x62, 0x03, 0x00, 0x01, 0x92]),
+    (PacketType::Pubcomp, 0, &[0x70, 0x02, 0x00, 0x01]),
+    (PacketType::Pubcomp, 0x92, &[0x70, 0x03, 0x00, 0x01, 0x92]),
+    (PacketType::Disconnect, 0, &[0xE0, 0x00]),
+    (PacketType::Disconnect, 0x04, &[0xE0, 0x01, 0x04]),
+    (PacketType::Auth, 0, &[0xF0, 0x00]),
+    (PacketType::Auth, 0x18, &[0xF0, 0x02, 0x18, 0x00]),
+];
+
 #[test]
 fn shortest_spellings(rt: HostRuntime) -> Result<(), Fail> {
-    use PacketType::{Auth, Disconnect, Puback, Pubcomp, Pubrec, Pubrel};
-    let rows: [(PacketType, u8, &[u8]); 12] = [
-        (Puback, 0, &[0x40, 0x02, 0x00, 0x01]),
-        (Puback, 0x10, &[0x40, 0x03, 0x00, 0x01, 0x10]),
-        (Pubrec, 0, &[0x50, 0x02, 0x00, 0x01]),
-        (Pubrec, 0x80, &[0x50, 0x03, 0x00, 0x01, 0x80]),
-        (Pubrel, 0, &[0x62, 0x02, 0x00, 0x01]),
-        (Pubrel, 0x92, &[0x62, 0x03, 0x00, 0x01, 0x92]),
-        (Pubcomp, 0, &[0x70, 0x02, 0x00, 0x01]),
-        (Pubcomp, 0x92, &[0x70, 0x03, 0x00, 0x01, 0x92]),
-        (Disconnect, 0, &[0xE0, 0x00]),
-        (Disconnect, 0x04, &[0xE0, 0x01, 0x04]),
-        (Auth, 0, &[0xF0, 0x00]),
-        (Auth, 0x18, &[0xF0, 0x02, 0x18, 0x00]),
-    ];
-    for (kind, code, bytes) in rows {
-        assert!(rt;
-            is_written_short(rt.alloc(), kind, code, bytes)?,
-            "{bytes:?}"
-        );
+    for (kind, code, bytes) in &SHORTEST {
+        let is_written = is_written_short(rt.alloc(), *kind, *code, bytes)?;
+        assert!(rt; is_written, "{bytes:?}");
     }
     Ok(())
 }
@@ -104,17 +102,27 @@ fn spellings_that_were_read(rt: HostRuntime) -> Result<(), Fail> {
     Ok(())
 }
 
+// Whether a PUBACK of Reason Code 0x00 with this Reason String is written as these bytes.
+fn is_puback_written(alloc: Global, reason: &str, bytes: &[u8]) -> Result<bool, Fail> {
+    let list = list_of(alloc, Place::Puback, &[Prop::ReasonString(reason)])?;
+    let packet = Packet::Puback(acknowledgement(1, 0, list.as_props()));
+    is_written_as(alloc, &packet, bytes)
+}
+
+// Whether an AUTH of Reason Code 0x00 with this Authentication Method is written as these bytes.
+fn is_auth_written(alloc: Global, method: &str, bytes: &[u8]) -> Result<bool, Fail> {
+    let list = list_of(alloc, Place::Auth, &[Prop::AuthenticationMethod(method)])?;
+    let packet = Packet::Auth(reason_packet(0, list.as_props()));
+    is_written_as(alloc, &packet, bytes)
+}
+
 // With properties, a Reason Code of 0x00 is written too.
 #[test]
 fn whole_spellings(rt: HostRuntime) -> Result<(), Fail> {
-    let list = list_of(rt.alloc(), Place::Puback, &[Prop::ReasonString("r")])?;
-    let packet = Packet::Puback(acknowledgement(1, 0, list.as_props()));
-    let wanted: &[u8] = &[0x40, 0x08, 0x00, 0x01, 0x00, 0x04, 0x1F, 0x00, 0x01, b'r'];
-    assert!(rt; is_written_as(rt.alloc(), &packet, wanted)?);
-    let list = list_of(rt.alloc(), Place::Auth, &[Prop::AuthenticationMethod("m")])?;
-    let packet = Packet::Auth(reason_packet(0, list.as_props()));
-    let wanted: &[u8] = &[0xF0, 0x06, 0x00, 0x04, 0x15, 0x00, 0x01, b'm'];
-    assert!(rt; is_written_as(rt.alloc(), &packet, wanted)?);
+    let puback = b"\x40\x08\x00\x01\x00\x04\x1F\x00\x01r";
+    assert!(rt; is_puback_written(rt.alloc(), "r", puback)?);
+    let auth = b"\xF0\x06\x00\x04\x15\x00\x01m";
+    assert!(rt; is_auth_written(rt.alloc(), "m", auth)?);
     Ok(())
 }
 
@@ -135,27 +143,28 @@ fn least_connect(rt: HostRuntime) -> Result<(), Fail> {
     Ok(())
 }
 
-#[test]
-fn lengths_as_read(rt: HostRuntime) {
-    let long = Packet::Puback(Acknowledgement {
+// The size of a packet of this type whose body was so long; None if its code may not be left out.
+fn size_as_read(kind: PacketType, length: u32) -> Option<Option<u32>> {
+    let place = place_of(kind)?;
+    let answer = Acknowledgement {
         identifier: 1,
         code: 0,
-        properties: Props::empty(Place::Puback),
-        read_len: Some(4),
-    });
-    assert_eq!(rt; long.size(), Some(6));
-    let long = Packet::Disconnect(ReasonPacket {
+        properties: Props::empty(place),
+        read_len: Some(length),
+    };
+    let reason = ReasonPacket {
         code: 0,
-        properties: Props::empty(Place::Disconnect),
-        read_len: Some(2),
-    });
-    assert_eq!(rt; long.size(), Some(4));
-    let never = Packet::Auth(ReasonPacket {
-        code: 0,
-        properties: Props::empty(Place::Auth),
-        read_len: Some(268_435_456),
-    });
-    assert_eq!(rt; never.size(), None);
+        properties: Props::empty(place),
+        read_len: Some(length),
+    };
+    Some(with_fields(kind, answer, reason)?.size())
+}
+
+#[test]
+fn lengths_as_read(rt: HostRuntime) {
+    assert_eq!(rt; size_as_read(PacketType::Puback, 4), Some(Some(6)));
+    assert_eq!(rt; size_as_read(PacketType::Disconnect, 2), Some(Some(4)));
+    assert_eq!(rt; size_as_read(PacketType::Auth, 268_435_456), Some(None));
 }
 
 #[test]

@@ -13,10 +13,19 @@ fn fields(rt: HostRuntime) -> Result<(), Fail> {
     assert_eq!(rt; cursor.text()?, "a/b");
     assert!(rt; cursor.is_empty());
 
+    Ok(())
+}
+
+#[test]
+fn varints(rt: HostRuntime) -> Result<(), Fail> {
     let mut out = Vec::new(rt.alloc());
     put_varint(&mut out, 321)?;
     assert_eq!(rt; out.as_slice(), b"\xC1\x02".as_slice());
+    Ok(())
+}
 
+#[test]
+fn texts(rt: HostRuntime) -> Result<(), Fail> {
     let mut out = Vec::new(rt.alloc());
     put_text(&mut out, "A\u{2A6D4}")?;
     assert_eq!(rt; out.as_slice(), b"\x00\x05A\xF0\xAA\x9B\x94".as_slice());
@@ -28,13 +37,19 @@ fn topics(rt: HostRuntime) {
     assert!(rt; matches("sport/+/player1", "sport/tennis/player1"));
     assert!(rt; matches("sport/#", "sport"));
     assert!(rt; !matches("#", "$SYS/monitor"));
+}
 
+#[test]
+fn filters(rt: HostRuntime) {
     assert_eq!(rt; check_filter("sport/tennis/#"), Ok(()));
     assert_eq!(rt;
         check_filter("sport/tennis#"),
         Err(FilterFault::HashNotAlone)
     );
+}
 
+#[test]
+fn aliases(rt: HostRuntime) {
     let mut aliases = AliasTable::new(rt.alloc());
     assert_eq!(rt; aliases.set(1, "sport/tennis"), Ok(()));
     assert_eq!(rt; aliases.get(1), Some("sport/tennis"));

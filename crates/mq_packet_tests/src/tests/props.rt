@@ -3,7 +3,6 @@ use mq_props::Place::*;
 use mq_props::*;
 use mq_wire::{Cursor, Reason, put_varint};
 use std::alloc::Global;
-use std::process::Abort;
 use std::test::Fail;
 
 const PLACES: [Place; 14] = [
@@ -100,32 +99,55 @@ fn is_read_as_stated(
     Ok(read(&list, place) == (None, 0) && read(&twice, place) == wanted)
 }
 
+// The first list in which the property isn't read as the standard's table says.
+fn first_other_place(
+    alloc: Global,
+    property: &[u8],
+    places: &[Place],
+) -> Result<Option<Place>, Fail> {
+    for place in &PLACES {
+        if !is_read_as_stated(alloc, property, places, *place)? {
+            return Ok(Some(*place));
+        }
+    }
+    Ok(None)
+}
+
 #[test]
 fn every_property_in_every_list(rt: HostRuntime) -> Result<(), Fail> {
     for (property, places) in &PROPERTIES {
-        for place in PLACES {
-            let is_as_stated = is_read_as_stated(rt.alloc(), property, places, place)?;
-            assert!(rt; is_as_stated, "{property:?} in {place:?}");
-        }
+        let other = first_other_place(rt.alloc(), property, places)?;
+        assert_eq!(rt; other, None, "{property:?}");
+    }
+    Ok(())
+}
+
+// Whether a property of this identifier is in the standard's table.
+fn is_known(identifier: u8) -> bool {
+    PROPERTIES
+        .iter()
+        .any(|(property, _)| property.first() == Some(&identifier))
+}
+
+// Whether a list of this identifier alone is refused for it.
+fn is_unknown(alloc: Global, identifier: u8) -> Result<bool, Fail> {
+    let list = spelled(alloc, &[&[identifier]])?;
+    Ok(read(&list, Connack).0 == Some((1, PropReason::Unknown)))
+}
+
+#[test]
+fn unknown_identifiers(rt: HostRuntime) -> Result<(), Fail> {
+    for identifier in 0..128u8 {
+        let is_refused = is_unknown(rt.alloc(), identifier)?;
+        assert!(rt; is_refused != is_known(identifier), "at {identifier}");
     }
     Ok(())
 }
 
 #[test]
-fn unknown_identifiers(rt: HostRuntime) -> Result<(), Fail> {
-    for id in 0..128u8 {
-        let known = PROPERTIES
-            .iter()
-            .any(|(property, _)| property.first() == Some(&id));
-        let list = spelled(rt.alloc(), &[&[id]])?;
-        let fault = read(&list, Connack).0;
-        assert_eq!(rt; fault == Some((1, PropReason::Unknown)), !known, "at {id}");
-    }
-    assert_eq!(rt;
-        read(&[2, 0x80, 0x01], Connack).0,
-        Some((1, PropReason::Unknown))
-    );
-    Ok(())
+fn identifier_of_two_bytes(rt: HostRuntime) {
+    let fault = read(&[2, 0x80, 0x01], Connack).0;
+    assert_eq!(rt; fault, Some((1, PropReason::Unknown)));
 }
 
 const BAD: Option<PropReason> = Some(PropReason::Value);
@@ -191,28 +213,42 @@ fn bounds(rt: HostRuntime) -> Result<(), Fail> {
     Ok(())
 }
 
+// A list in which a field is bad, where that is, and why.
+const BAD_FIELDS: [(&[u8], usize, PropReason); 10] = [
+    (&[], 0, PropReason::Wire(Reason::Short)),
+    (&[0x80, 0x00], 0, PropReason::Wire(Reason::Overlong)),
+    (&[3, 0x01, 1], 0, PropReason::Wire(Reason::Short)),
+    (&[1, 0x01, 1], 2, PropReason::Wire(Reason::Short)),
+    (
+        &[3, 0x01, 1, 0x80, 0x01],
+        3,
+        PropReason::Wire(Reason::Short),
+    ),
+    (&[3, 0x81, 0x00, 1], 1, PropReason::Wire(Reason::Overlong)),
+    (&[4, 0x03, 0, 1, 0xFF], 2, PropReason::Wire(Reason::NotUtf8)),
+    (
+        &[7, 0x26, 0, 1, b'a', 0, 1, 0],
+        2,
+        PropReason::Wire(Reason::Nul),
+    ),
+    (&[5, 0x23, 0, 1, 0x23, 0, 1], 4, PropReason::Repeated),
+    (&[4, 0x0B, 0, 0x24, 9], 2, PropReason::Value),
+];
+
+// Whether the list of a PUBLISH is refused there and for this reason, and none of it is taken.
+fn is_bad(bytes: &[u8], at: usize, reason: PropReason) -> bool {
+    read(bytes, Publish) == (Some((at, reason)), bytes.len())
+}
+
 #[test]
 fn first_bad_field(rt: HostRuntime) {
-    let wire = |reason| PropReason::Wire(reason);
-    let rows: [(&[u8], usize, PropReason); 10] = [
-        (&[], 0, wire(Reason::Short)),
-        (&[0x80, 0x00], 0, wire(Reason::Overlong)),
-        (&[3, 0x01, 1], 0, wire(Reason::Short)),
-        (&[1, 0x01, 1], 2, wire(Reason::Short)),
-        (&[3, 0x01, 1, 0x80, 0x01], 3, wire(Reason::Short)),
-        (&[3, 0x81, 0x00, 1], 1, wire(Reason::Overlong)),
-        (&[4, 0x03, 0, 1, 0xFF], 2, wire(Reason::NotUtf8)),
-        (&[7, 0x26, 0, 1, b'a', 0, 1, 0], 2, wire(Reason::Nul)),
-        (&[5, 0x23, 0, 1, 0x23, 0, 1], 4, PropReason::Repeated),
-        (&[4, 0x0B, 0, 0x24, 9], 2, PropReason::Value),
-    ];
-    for (bytes, at, reason) in rows {
-        assert_eq!(rt;
-            read(bytes, Publish),
-            (Some((at, reason)), bytes.len()),
-            "at {bytes:?}"
-        );
+    for (bytes, at, reason) in &BAD_FIELDS {
+        assert!(rt; is_bad(bytes, *at, *reason), "at {bytes:?}");
     }
+}
+
+#[test]
+fn leaves_what_follows_a_list(rt: HostRuntime) {
     assert_eq!(rt; read(&[2, 0x01, 1, 7, 8], Publish), (None, 2));
     assert_eq!(rt; read(&[0, 9], Pubrel), (None, 1));
 }
@@ -228,112 +264,135 @@ fn first_other(list: &mut PropsBuf, rows: &[(Prop<'_>, Result<(), PushFault>)]) 
     None
 }
 
+// The properties that the list of a PUBLISH refuses, and why.
+const REFUSED: [(Prop, Result<(), PushFault>); 7] = [
+    (Prop::TopicAlias(0), Err(PushFault::Value)),
+    (Prop::ReceiveMaximum(5), Err(PushFault::NotAllowed)),
+    (Prop::ResponseTopic("a/#"), Err(PushFault::Value)),
+    (Prop::ContentType("\0"), Err(PushFault::Value)),
+    (Prop::UserProperty("a", "\0"), Err(PushFault::Value)),
+    (Prop::SubscriptionIdentifier(0), Err(PushFault::Value)),
+    (
+        Prop::SubscriptionIdentifier(268_435_456),
+        Err(PushFault::Value),
+    ),
+];
+
+// Whether the list of a PUBLISH answers to each of these as it is stated, and has these bytes then.
+fn is_pushed_as(alloc: Global, rows: &[(Prop<'_>, Result<(), PushFault>)], bytes: &[u8]) -> bool {
+    let mut list = PropsBuf::new(alloc, Publish);
+    first_other(&mut list, rows).is_none()
+        && list.as_props().as_bytes() == bytes
+        && list.as_props().place() == Publish
+}
+
 #[test]
 fn what_a_list_refuses(rt: HostRuntime) {
-    use PushFault::{NotAllowed, Value};
-    let mut list = PropsBuf::new(rt.alloc(), Publish);
-    let refused = first_other(
-        &mut list,
-        &[
-            (Prop::TopicAlias(0), Err(Value)),
-            (Prop::ReceiveMaximum(5), Err(NotAllowed)),
-            (Prop::ResponseTopic("a/#"), Err(Value)),
-            (Prop::ContentType("\0"), Err(Value)),
-            (Prop::UserProperty("a", "\0"), Err(Value)),
-            (Prop::SubscriptionIdentifier(0), Err(Value)),
-            (Prop::SubscriptionIdentifier(268_435_456), Err(Value)),
-        ],
-    );
-    assert_eq!(rt; refused, None);
-    assert_eq!(rt; list.as_props().as_bytes().len(), 0);
+    assert!(rt; is_pushed_as(rt.alloc(), &REFUSED, &[]));
+}
+
+// Whether the list of a PUBLISH takes the longest text, and refuses a longer one and longer data.
+fn takes_the_longest(list: &mut PropsBuf, longest: &str, longer: &str) -> bool {
+    list.push(&Prop::ContentType(longer)) == Err(PushFault::TooLong)
+        && list.push(&Prop::UserProperty("a", longer)) == Err(PushFault::TooLong)
+        && list.push(&Prop::CorrelationData(longer.as_bytes())) == Err(PushFault::TooLong)
+        && list.push(&Prop::ContentType(longest)) == Ok(())
+}
+
+// Whether that holds of texts of `a`.
+fn takes_long_texts(alloc: Global) -> Result<bool, Fail> {
+    let longest = "a".repeat(alloc, 65_535)?;
+    let longer = "a".repeat(alloc, 65_536)?;
+    let mut list = PropsBuf::new(alloc, Publish);
+    Ok(takes_the_longest(&mut list, longest.as_str(), longer.as_str()))
 }
 
 #[test]
 fn the_longest_text_in_a_list(rt: HostRuntime) -> Result<(), Fail> {
-    use PushFault::TooLong;
-    let long = vec![in rt.alloc(); b'a'; 65_536]?;
-    let text = str::from_utf8(&long)?;
-    let mut list = PropsBuf::new(rt.alloc(), Publish);
-    let other = first_other(
-        &mut list,
-        &[
-            (Prop::ContentType(text), Err(TooLong)),
-            (Prop::UserProperty("a", text), Err(TooLong)),
-            (Prop::CorrelationData(&long), Err(TooLong)),
-            (Prop::ContentType(str::from_utf8(&long[1..])?), Ok(())),
-        ],
-    );
-    assert_eq!(rt; other, None);
+    assert!(rt; takes_long_texts(rt.alloc())?);
     Ok(())
 }
 
+// Properties that are pushed to the list of a PUBLISH one after the other, and the answer to each.
+const TAKEN: [(Prop, Result<(), PushFault>); 7] = [
+    (Prop::TopicAlias(1), Ok(())),
+    (Prop::TopicAlias(1), Err(PushFault::Repeated)),
+    (Prop::TopicAlias(0), Err(PushFault::Repeated)),
+    (Prop::UserProperty("a", "b"), Ok(())),
+    (Prop::UserProperty("a", "b"), Ok(())),
+    (Prop::SubscriptionIdentifier(268_435_455), Ok(())),
+    (Prop::SubscriptionIdentifier(300), Ok(())),
+];
+
+// The bytes of the list then.
+const TAKEN_BYTES: &[u8] = &[
+    0x23, 0, 1, 0x26, 0, 1, b'a', 0, 1, b'b', 0x26, 0, 1, b'a', 0, 1, b'b', 0x0B, 0xFF, 0xFF, 0xFF,
+    0x7F, 0x0B, 0xAC, 0x02,
+];
+
 #[test]
 fn what_a_list_takes(rt: HostRuntime) {
-    use PushFault::Repeated;
-    let mut list = PropsBuf::new(rt.alloc(), Publish);
-    let taken = first_other(
-        &mut list,
-        &[
-            (Prop::TopicAlias(1), Ok(())),
-            (Prop::TopicAlias(1), Err(Repeated)),
-            (Prop::TopicAlias(0), Err(Repeated)),
-            (Prop::UserProperty("a", "b"), Ok(())),
-            (Prop::UserProperty("a", "b"), Ok(())),
-            (Prop::SubscriptionIdentifier(268_435_455), Ok(())),
-            (Prop::SubscriptionIdentifier(300), Ok(())),
-        ],
-    );
-    assert_eq!(rt; taken, None);
-    let bytes: &[u8] = &[
-        0x23, 0, 1, 0x26, 0, 1, b'a', 0, 1, b'b', 0x26, 0, 1, b'a', 0, 1, b'b', 0x0B, 0xFF, 0xFF,
-        0xFF, 0x7F, 0x0B, 0xAC, 0x02,
-    ];
-    assert_eq!(rt; list.as_props().as_bytes(), bytes);
-    assert_eq!(rt; list.as_props().place(), Publish);
+    assert!(rt; is_pushed_as(rt.alloc(), &TAKEN, TAKEN_BYTES));
+}
+
+// Whether a list has these properties, in this order, and no other.
+fn are_in_order(props: &Props<'_>) -> bool {
+    let mut iter = props.iter();
+    matches!(iter.next(), Some(Prop::RetainAvailable(1)))
+        && matches!(iter.next(), Some(Prop::ServerKeepAlive(9)))
+        && matches!(iter.next(), Some(Prop::ReasonString("no")))
+        && iter.next().is_none()
+}
+
+// Whether a CONNACK's list of these bytes is read, has them in order, and says what is there.
+fn is_read_in_order(bytes: &[u8]) -> bool {
+    match Props::read(&mut Cursor::new(bytes), Connack) {
+        Ok(props) => {
+            are_in_order(&props)
+                && props.get_reason_string() == Some("no")
+                && props.get_maximum_qos().is_none()
+        }
+        Err(_) => false,
+    }
 }
 
 #[test]
 fn in_order(rt: HostRuntime) {
-    let bytes = [6, 0x25, 1, 0x13, 0, 9, 0x24];
-    let mut cursor = Cursor::new(&bytes[..1]);
-    assert!(rt; Props::read(&mut cursor, Connack).is_err());
-    let bytes = [10, 0x25, 1, 0x13, 0, 9, 0x1F, 0, 2, b'n', b'o'];
-    let mut cursor = Cursor::new(&bytes);
-    match Props::read(&mut cursor, Connack) {
-        Ok(props) => {
-            let mut iter = props.iter();
-            assert!(rt; matches!(iter.next(), Some(Prop::RetainAvailable(1))));
-            assert!(rt; matches!(iter.next(), Some(Prop::ServerKeepAlive(9))));
-            assert!(rt; matches!(iter.next(), Some(Prop::ReasonString("no"))));
-            assert!(rt; iter.next().is_none());
-            assert_eq!(rt; props.get_reason_string(), Some("no"));
-            assert_eq!(rt; props.get_maximum_qos(), None);
-        }
-        Err(fault) => assert!(rt; false, "{fault:?}"),
-    }
+    assert!(rt; is_read_in_order(&[10, 0x25, 1, 0x13, 0, 9, 0x1F, 0, 2, b'n', b'o']));
+}
+
+#[test]
+fn a_length_alone(rt: HostRuntime) {
+    assert!(rt; read(&[6], Connack).0.is_some());
+}
+
+// Whether the list of no properties has none.
+fn is_empty(place: Place) -> bool {
+    let props = Props::empty(place);
+    props.place() == place
+        && props.as_bytes().is_empty()
+        && props.iter().next().is_none()
+        && props.get_user_property().is_none()
 }
 
 #[test]
 fn a_list_of_no_properties(rt: HostRuntime) {
     for place in &PLACES {
-        let props = Props::empty(*place);
-        assert_eq!(rt; (props.place(), props.as_bytes().len()), (*place, 0));
-        let is_empty = props.iter().next().is_none() && props.get_user_property().is_none();
-        assert!(rt; is_empty, "{place:?}");
+        assert!(rt; is_empty(*place), "{place:?}");
+    }
+}
+
+// Whether a PUBLISH's list is read at the front of these bytes, and has those.
+fn has_bytes(bytes: &[u8], wanted: &[u8]) -> bool {
+    match Props::read(&mut Cursor::new(bytes), Publish) {
+        Ok(props) => props.place() == Publish && props.as_bytes() == wanted,
+        Err(_) => false,
     }
 }
 
 #[test]
 fn the_bytes_of_a_list(rt: HostRuntime) {
-    let bytes = [5, 0x23, 0, 1, 0x01, 1, 0xFF];
-    let mut cursor = Cursor::new(&bytes);
-    match Props::read(&mut cursor, Publish) {
-        Ok(props) => {
-            assert_eq!(rt; props.place(), Publish);
-            assert_eq!(rt; props.as_bytes(), &bytes[1..6]);
-        }
-        Err(fault) => assert!(rt; false, "{fault:?}"),
-    }
+    assert!(rt; has_bytes(&[5, 0x23, 0, 1, 0x01, 1, 0xFF], &[0x23, 0, 1, 0x01, 1]));
 }
 
 // Whether a list that is read has a Message Expiry Interval, a Subscription Identifier, a Reason
@@ -376,124 +435,136 @@ fn which_kinds_are_there(rt: HostRuntime) {
     }
 }
 
-// The asserts stand apart from the list: where one fails, nothing is dropped.
-fn are_firsts_of_publish(rt: &impl Abort, props: Props<'_>) {
-    assert_eq!(rt; props.get_payload_format_indicator(), Some(1));
-    let numbers = [
-        props.get_message_expiry_interval(),
-        props.get_subscription_identifier(),
-    ];
-    assert_eq!(rt; numbers, [Some(2), Some(4)]);
-    let texts = [props.get_content_type(), props.get_response_topic()];
-    assert_eq!(rt; texts, [Some("c"), Some("r")]);
-    assert_eq!(rt; props.get_correlation_data(), Some([7].as_slice()));
-    assert_eq!(rt; props.get_topic_alias(), Some(6));
-    assert_eq!(rt; props.get_user_property(), Some(("n", "v")));
+// Whether the first of each text and data in the list of a PUBLISH is the one that was pushed first.
+fn are_first_texts_of_publish(props: &Props<'_>) -> bool {
+    props.get_content_type() == Some("c")
+        && props.get_response_topic() == Some("r")
+        && props.get_correlation_data() == Some([7].as_slice())
+        && props.get_user_property() == Some(("n", "v"))
+}
+
+// The same of each number.
+fn are_first_numbers_of_publish(props: &Props<'_>) -> bool {
+    props.get_payload_format_indicator() == Some(1)
+        && props.get_message_expiry_interval() == Some(2)
+        && props.get_subscription_identifier() == Some(4)
+        && props.get_topic_alias() == Some(6)
+}
+
+const OF_PUBLISH: [Prop; 10] = [
+    Prop::PayloadFormatIndicator(1),
+    Prop::MessageExpiryInterval(2),
+    Prop::ContentType("c"),
+    Prop::ResponseTopic("r"),
+    Prop::CorrelationData(&[7]),
+    Prop::SubscriptionIdentifier(4),
+    Prop::SubscriptionIdentifier(5),
+    Prop::TopicAlias(6),
+    Prop::UserProperty("n", "v"),
+    Prop::UserProperty("m", "w"),
+];
+
+// Whether both hold of the list of these.
+fn are_firsts_of_publish(alloc: Global) -> Result<bool, Fail> {
+    let list = list_of(alloc, Publish, &OF_PUBLISH)?;
+    let props = list.as_props();
+    Ok(are_first_texts_of_publish(&props) && are_first_numbers_of_publish(&props))
 }
 
 #[test]
 fn first_of_each_in_publish(rt: HostRuntime) -> Result<(), Fail> {
-    let list = list_of(
-        rt.alloc(),
-        Publish,
-        &[
-            Prop::PayloadFormatIndicator(1),
-            Prop::MessageExpiryInterval(2),
-            Prop::ContentType("c"),
-            Prop::ResponseTopic("r"),
-            Prop::CorrelationData(&[7]),
-            Prop::SubscriptionIdentifier(4),
-            Prop::SubscriptionIdentifier(5),
-            Prop::TopicAlias(6),
-            Prop::UserProperty("n", "v"),
-            Prop::UserProperty("m", "w"),
-        ],
-    )?;
-    are_firsts_of_publish(&rt, list.as_props());
+    assert!(rt; are_firsts_of_publish(rt.alloc())?);
     Ok(())
 }
 
-fn are_firsts_of_connack(rt: &impl Abort, props: Props<'_>) {
-    let texts = [
-        props.get_assigned_client_identifier(),
-        props.get_authentication_method(),
-        props.get_response_information(),
-        props.get_server_reference(),
-        props.get_reason_string(),
-    ];
-    assert_eq!(rt;
-        texts,
-        [Some("a"), Some("m"), Some("i"), Some("s"), Some("r")]
-    );
-    assert_eq!(rt; props.get_authentication_data(), Some([3].as_slice()));
-    let sizes = [
-        props.get_session_expiry_interval(),
-        props.get_maximum_packet_size(),
-    ];
-    assert_eq!(rt; sizes, [Some(1), Some(6)]);
-    let counts = [
-        props.get_server_keep_alive(),
-        props.get_receive_maximum(),
-        props.get_topic_alias_maximum(),
-    ];
-    assert_eq!(rt; counts, [Some(2), Some(4), Some(5)]);
-    let abilities = [
-        props.get_maximum_qos(),
-        props.get_retain_available(),
-        props.get_wildcard_subscription_available(),
-        props.get_subscription_identifier_available(),
-        props.get_shared_subscription_available(),
-    ];
-    assert_eq!(rt; abilities, [Some(1), Some(0), Some(1), Some(0), Some(1)]);
+// Whether each text and data in the list of a CONNACK is the one that was pushed.
+fn are_texts_of_connack(props: &Props<'_>) -> bool {
+    props.get_assigned_client_identifier() == Some("a")
+        && props.get_authentication_method() == Some("m")
+        && props.get_response_information() == Some("i")
+        && props.get_server_reference() == Some("s")
+        && props.get_reason_string() == Some("r")
+        && props.get_authentication_data() == Some([3].as_slice())
+}
+
+// The same of each number.
+fn are_numbers_of_connack(props: &Props<'_>) -> bool {
+    props.get_session_expiry_interval() == Some(1)
+        && props.get_maximum_packet_size() == Some(6)
+        && props.get_server_keep_alive() == Some(2)
+        && props.get_receive_maximum() == Some(4)
+        && props.get_topic_alias_maximum() == Some(5)
+}
+
+// The same of what the Server can do.
+fn are_abilities_of_connack(props: &Props<'_>) -> bool {
+    props.get_maximum_qos() == Some(1)
+        && props.get_retain_available() == Some(0)
+        && props.get_wildcard_subscription_available() == Some(1)
+        && props.get_subscription_identifier_available() == Some(0)
+        && props.get_shared_subscription_available() == Some(1)
+}
+
+const OF_CONNACK: [Prop; 16] = [
+    Prop::SessionExpiryInterval(1),
+    Prop::AssignedClientIdentifier("a"),
+    Prop::ServerKeepAlive(2),
+    Prop::AuthenticationMethod("m"),
+    Prop::AuthenticationData(&[3]),
+    Prop::ResponseInformation("i"),
+    Prop::ServerReference("s"),
+    Prop::ReasonString("r"),
+    Prop::ReceiveMaximum(4),
+    Prop::TopicAliasMaximum(5),
+    Prop::MaximumQos(1),
+    Prop::RetainAvailable(0),
+    Prop::MaximumPacketSize(6),
+    Prop::WildcardSubscriptionAvailable(1),
+    Prop::SubscriptionIdentifierAvailable(0),
+    Prop::SharedSubscriptionAvailable(1),
+];
+
+// Whether all three hold of the list of these.
+fn are_firsts_of_connack(alloc: Global) -> Result<bool, Fail> {
+    let list = list_of(alloc, Connack, &OF_CONNACK)?;
+    let props = list.as_props();
+    let are_numbers = are_numbers_of_connack(&props) && are_abilities_of_connack(&props);
+    Ok(are_texts_of_connack(&props) && are_numbers)
 }
 
 #[test]
 fn first_of_each_in_connack(rt: HostRuntime) -> Result<(), Fail> {
-    let list = list_of(
-        rt.alloc(),
-        Connack,
-        &[
-            Prop::SessionExpiryInterval(1),
-            Prop::AssignedClientIdentifier("a"),
-            Prop::ServerKeepAlive(2),
-            Prop::AuthenticationMethod("m"),
-            Prop::AuthenticationData(&[3]),
-            Prop::ResponseInformation("i"),
-            Prop::ServerReference("s"),
-            Prop::ReasonString("r"),
-            Prop::ReceiveMaximum(4),
-            Prop::TopicAliasMaximum(5),
-            Prop::MaximumQos(1),
-            Prop::RetainAvailable(0),
-            Prop::MaximumPacketSize(6),
-            Prop::WildcardSubscriptionAvailable(1),
-            Prop::SubscriptionIdentifierAvailable(0),
-            Prop::SharedSubscriptionAvailable(1),
-        ],
-    )?;
-    are_firsts_of_connack(&rt, list.as_props());
+    assert!(rt; are_firsts_of_connack(rt.alloc())?);
     Ok(())
 }
 
-fn are_firsts_of_connect(rt: &impl Abort, props: Props<'_>) {
-    assert_eq!(rt; props.get_request_problem_information(), Some(0));
-    assert_eq!(rt; props.get_request_response_information(), Some(1));
+const OF_CONNECT: [Prop; 2] = [
+    Prop::RequestProblemInformation(0),
+    Prop::RequestResponseInformation(1),
+];
+
+// Whether each property of a CONNECT that no other packet has is the one that was pushed.
+fn are_firsts_of_connect(alloc: Global) -> Result<bool, Fail> {
+    let list = list_of(alloc, Connect, &OF_CONNECT)?;
+    let props = list.as_props();
+    let problem = props.get_request_problem_information();
+    Ok(problem == Some(0) && props.get_request_response_information() == Some(1))
 }
 
 #[test]
 fn first_of_each_in_connect(rt: HostRuntime) -> Result<(), Fail> {
-    let asked = [
-        Prop::RequestProblemInformation(0),
-        Prop::RequestResponseInformation(1),
-    ];
-    let list = list_of(rt.alloc(), Connect, &asked)?;
-    are_firsts_of_connect(&rt, list.as_props());
+    assert!(rt; are_firsts_of_connect(rt.alloc())?);
     Ok(())
+}
+
+// The Will Delay Interval in the list of a Will that has this one alone.
+fn will_delay(alloc: Global, interval: u32) -> Result<Option<u32>, Fail> {
+    let list = list_of(alloc, Will, &[Prop::WillDelayInterval(interval)])?;
+    Ok(list.as_props().get_will_delay_interval())
 }
 
 #[test]
 fn first_of_each_in_will(rt: HostRuntime) -> Result<(), Fail> {
-    let list = list_of(rt.alloc(), Will, &[Prop::WillDelayInterval(8)])?;
-    assert_eq!(rt; list.as_props().get_will_delay_interval(), Some(8));
+    assert_eq!(rt; will_delay(rt.alloc(), 8)?, Some(8));
     Ok(())
 }

@@ -1,18 +1,19 @@
 //! The rule that a body breaks, and where: one row for each rule, and others on the order in which
 //! they are checked.
 
-ghost use Rattle.std.specs.Prelude.{◌≤◌, length};
-ghost use Rattle.mq_wire.specs.Spellings.{max_varint};
-
 use super::harness::MAX_BODY;
 use mq_packet::PacketRule::*;
 use mq_packet::{BodyFault, DecodeFault, Packet, PacketRule, decode};
 
-// Why a packet isn't read; None if it is.
-fn fault_of(first: u8, body: &[u8]) -> Option<DecodeFault>
-    requires { length body.now ≤ max_varint }
-{
-    decode(first, body).err()
+// Whether a packet isn't read for this fault; or is read, if there is none.
+fn is_answered(first: u8, body: &[u8], fault: Option<DecodeFault>) -> bool {
+    body.len() <= MAX_BODY && decode(first, body).err() == fault
+}
+
+// Whether a packet breaks this rule there.
+fn breaks(first: u8, body: &[u8], at: u32, rule: PacketRule) -> bool {
+    let broken = DecodeFault::Broken(BodyFault { at, rule });
+    is_answered(first, body, Some(broken))
 }
 
 // A packet's first byte and body, the place of the byte that breaks a rule, and the rule.
@@ -189,12 +190,7 @@ fn breaks_rules(rt: HostRuntime) {
     ];
     for table in tables {
         for (first, body, at, rule) in table {
-            assert!(rt; body.len() <= MAX_BODY);
-            let broken = DecodeFault::Broken(BodyFault {
-                at: *at,
-                rule: *rule,
-            });
-            assert_eq!(rt; fault_of(*first, body), Some(broken), "{first:#x} {body:?}");
+            assert!(rt; breaks(*first, body, *at, *rule), "{first:#x} {body:?}");
         }
     }
 }
@@ -202,45 +198,57 @@ fn breaks_rules(rt: HostRuntime) {
 #[test]
 fn names_another_version(rt: HostRuntime) {
     let body = [0, 4, 0x4d, 0x51, 0x54, 0x54, 4, 2, 0, 0x3c, 0, 0];
-    assert_eq!(rt; fault_of(0x10, &body), Some(DecodeFault::OtherVersion(4)));
+    assert!(rt; is_answered(0x10, &body, Some(DecodeFault::OtherVersion(4))));
 }
+
+const SHORTEST: [(u8, &[u8]); 11] = [
+    // A PINGREQ; a CONNECT with only what it must have; a PUBLISH on an empty topic with an alias.
+    (0xc0, &[]),
+    (0x10, &[0, 4, 0x4d, 0x51, 0x54, 0x54, 5, 0, 0, 0, 0, 0, 0]),
+    (0x30, &[0, 0, 3, 0x23, 0, 1]),
+    // Acknowledgements, a DISCONNECT and an AUTH that leave out all that they may.
+    (0x40, &[0, 1]),
+    (0x50, &[0, 1, 0x80]),
+    (0x62, &[0, 1, 0, 0]),
+    (0xe0, &[]),
+    (0xe0, &[0x04]),
+    (0xf0, &[]),
+    (0xf0, &[0x18]),
+    // A SUBACK without Reason Codes.
+    (0x90, &[0, 1, 0]),
+];
 
 #[test]
 fn takes_the_shortest(rt: HostRuntime) {
-    let packets: [(u8, &[u8]); 11] = [
-        // A PINGREQ; a CONNECT with only what it must have; a PUBLISH on an empty topic with an
-        // alias.
-        (0xc0, &[]),
-        (0x10, &[0, 4, 0x4d, 0x51, 0x54, 0x54, 5, 0, 0, 0, 0, 0, 0]),
-        (0x30, &[0, 0, 3, 0x23, 0, 1]),
-        // Acknowledgements, a DISCONNECT and an AUTH that leave out all that they may.
-        (0x40, &[0, 1]),
-        (0x50, &[0, 1, 0x80]),
-        (0x62, &[0, 1, 0, 0]),
-        (0xe0, &[]),
-        (0xe0, &[0x04]),
-        (0xf0, &[]),
-        (0xf0, &[0x18]),
-        // A SUBACK without Reason Codes.
-        (0x90, &[0, 1, 0]),
-    ];
-    for (first, body) in packets {
-        assert!(rt; body.len() <= MAX_BODY);
-        assert_eq!(rt; fault_of(first, body), None, "{first:#x} {body:?}");
+    for (first, body) in &SHORTEST {
+        assert!(rt; is_answered(*first, body, None), "{first:#x} {body:?}");
+    }
+}
+
+// The Packet Identifier of a PUBACK, and how long its body was.
+fn puback_of(body: &[u8]) -> Option<(u16, Option<u32>)> {
+    if body.len() > MAX_BODY {
+        return None;
+    }
+    match decode(0x40, body) {
+        Ok(Packet::Puback(ack)) => Some((ack.identifier, ack.read_len)),
+        _ => None,
+    }
+}
+
+// How long the body of an AUTH was.
+fn auth_length(body: &[u8]) -> Option<u32> {
+    if body.len() > MAX_BODY {
+        return None;
+    }
+    match decode(0xf0, body) {
+        Ok(Packet::Auth(auth)) => auth.read_len,
+        _ => None,
     }
 }
 
 #[test]
 fn keeps_the_length(rt: HostRuntime) {
-    match decode(0x40, &[0, 1, 0, 0]) {
-        Ok(Packet::Puback(ack)) => {
-            assert_eq!(rt; ack.read_len, Some(4));
-            assert_eq!(rt; ack.identifier, 1);
-        }
-        _ => panic!(rt; "no PUBACK"),
-    }
-    match decode(0xf0, &[]) {
-        Ok(Packet::Auth(auth)) => assert_eq!(rt; auth.read_len, Some(0)),
-        _ => panic!(rt; "no AUTH"),
-    }
+    assert_eq!(rt; puback_of(&[0, 1, 0, 0]), Some((1, Some(4))));
+    assert_eq!(rt; auth_length(&[]), Some(0));
 }

@@ -1,36 +1,34 @@
 use mq_topic::*;
+use std::alloc::Global;
+
+// Texts, and why each is no Topic Filter, if it isn't.
+const FILTERS: [(&str, Result<(), FilterFault>); 20] = [
+    ("a/#", Ok(())),
+    ("+/b", Ok(())),
+    ("#", Ok(())),
+    ("+", Ok(())),
+    ("/", Ok(())),
+    ("a//b", Ok(())),
+    ("+/+/#", Ok(())),
+    ("$share/g/t", Ok(())),
+    ("a/", Ok(())),
+    ("", Err(FilterFault::Empty)),
+    ("#/a", Err(FilterFault::HashNotLast)),
+    ("#/", Err(FilterFault::HashNotLast)),
+    ("a#", Err(FilterFault::HashNotAlone)),
+    ("a#/b", Err(FilterFault::HashNotAlone)),
+    ("+#", Err(FilterFault::HashNotAlone)),
+    ("##", Err(FilterFault::HashNotAlone)),
+    ("a+", Err(FilterFault::PlusNotAlone)),
+    ("++", Err(FilterFault::PlusNotAlone)),
+    ("a+/b#", Err(FilterFault::PlusNotAlone)),
+    ("a/#/b#", Err(FilterFault::HashNotLast)),
+];
 
 #[test]
 fn filters(rt: HostRuntime) {
-    let good = [
-        "a/#",
-        "+/b",
-        "#",
-        "+",
-        "/",
-        "a//b",
-        "+/+/#",
-        "$share/g/t",
-        "a/",
-    ];
-    for filter in good {
-        assert_eq!(rt; check_filter(filter), Ok(()), "at {filter}");
-    }
-    let bad = [
-        ("", FilterFault::Empty),
-        ("#/a", FilterFault::HashNotLast),
-        ("#/", FilterFault::HashNotLast),
-        ("a#", FilterFault::HashNotAlone),
-        ("a#/b", FilterFault::HashNotAlone),
-        ("+#", FilterFault::HashNotAlone),
-        ("##", FilterFault::HashNotAlone),
-        ("a+", FilterFault::PlusNotAlone),
-        ("++", FilterFault::PlusNotAlone),
-        ("a+/b#", FilterFault::PlusNotAlone),
-        ("a/#/b#", FilterFault::HashNotLast),
-    ];
-    for (filter, fault) in bad {
-        assert_eq!(rt; check_filter(filter), Err(fault), "at {filter}");
+    for (filter, wanted) in &FILTERS {
+        assert!(rt; check_filter(filter) == *wanted, "at {filter}");
     }
 }
 
@@ -42,13 +40,24 @@ fn faults_have_their_numbers(rt: HostRuntime) {
     assert_eq!(rt; FilterFault::PlusNotAlone as u8, 4);
 }
 
+// Texts, and whether each may be a Topic Name.
+const NAMES: [(&str, bool); 10] = [
+    ("", true),
+    ("a", true),
+    ("/", true),
+    ("a/b", true),
+    ("$SYS/x", true),
+    ("#", false),
+    ("+", false),
+    ("a/#", false),
+    ("a+b", false),
+    ("x#", false),
+];
+
 #[test]
 fn names(rt: HostRuntime) {
-    for name in ["", "a", "/", "a/b", "$SYS/x"] {
-        assert!(rt; check_name(name), "at {name}");
-    }
-    for name in ["#", "+", "a/#", "a+b", "x#"] {
-        assert!(rt; !check_name(name), "at {name}");
+    for (name, is_good) in &NAMES {
+        assert!(rt; check_name(name) == *is_good, "at {name}");
     }
 }
 
@@ -135,27 +144,41 @@ const BY_WILDCARDS: [Pair; 36] = [
 
 #[test]
 fn filters_match_by_levels(rt: HostRuntime) {
-    for (filter, name, is_match) in BY_LEVELS {
-        assert!(rt; matches(filter, name) == is_match, "{filter} at {name}");
+    for (filter, name, is_match) in &BY_LEVELS {
+        assert!(rt; matches(filter, name) == *is_match, "{filter} at {name}");
     }
 }
 
 #[test]
 fn wildcards_match(rt: HostRuntime) {
-    for (filter, name, is_match) in BY_WILDCARDS {
-        assert!(rt; matches(filter, name) == is_match, "{filter} at {name}");
+    for (filter, name, is_match) in &BY_WILDCARDS {
+        assert!(rt; matches(filter, name) == *is_match, "{filter} at {name}");
     }
+}
+
+// Whether each alias has the newest name that is set for it, and the other ones keep theirs.
+fn has_newest_names(table: &mut AliasTable) -> bool {
+    table.get(1).is_none()
+        && table.set(1, "a") == Ok(())
+        && table.set(2, "c") == Ok(())
+        && table.set(1, "b") == Ok(())
+        && table.get(1) == Some("b")
+        && table.get(2) == Some("c")
+}
+
+// Whether a table has no name of an alias that was set before it was cleared.
+fn is_cleared(table: &mut AliasTable) -> bool {
+    table.clear();
+    table.get(1).is_none()
+}
+
+// Whether both hold of a new table.
+fn newest_names_count(alloc: Global) -> bool {
+    let mut table = AliasTable::new(alloc);
+    has_newest_names(&mut table) && is_cleared(&mut table)
 }
 
 #[test]
 fn newest_name_of_an_alias_counts(rt: HostRuntime) {
-    let mut table = AliasTable::new(rt.alloc());
-    assert!(rt; table.get(1).is_none());
-    assert!(rt; table.set(1, "a") == Ok(()));
-    assert!(rt; table.set(2, "c") == Ok(()));
-    assert!(rt; table.set(1, "b") == Ok(()));
-    assert_eq!(rt; table.get(1), Some("b"));
-    assert_eq!(rt; table.get(2), Some("c"));
-    table.clear();
-    assert!(rt; table.get(1).is_none());
+    assert!(rt; newest_names_count(rt.alloc()));
 }

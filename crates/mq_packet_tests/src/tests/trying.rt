@@ -86,8 +86,8 @@ const OTHERS: [Row; 18] = [
 
 // Whether the packet tries just these rules, and those that each tries.
 fn tries_just(packet: &Packet<'_>, size: u32, tried: &str) -> bool {
-    for (rule, code) in RULES {
-        if packet.tries(size, rule) != tried.contains(code) {
+    for (rule, code) in &RULES {
+        if packet.tries(size, *rule) != tried.contains(*code) {
             return false;
         }
     }

@@ -36,9 +36,14 @@ const ROWS: [(&str, (u8, &[u8]), usize); 15] = [
     ("AUTH", AUTH, 2),
 ];
 
+// Whether so many beginnings of the packet's body are one.
+fn has_whole_beginnings((first, body): (u8, &[u8]), count: usize) -> bool {
+    whole_beginnings(first, body) == Some(count)
+}
+
 #[test]
 fn beginnings(rt: HostRuntime) {
-    for (name, (first, body), count) in &ROWS {
-        assert_eq!(rt; whole_beginnings(*first, body), Some(*count), "{name}");
+    for (name, packet, count) in &ROWS {
+        assert!(rt; has_whole_beginnings(*packet, *count), "{name}");
     }
 }
