@@ -1,14 +1,13 @@
 //! Events before the CONNACK of their connection: 4,096 may come, the OPEN counted.
 
-use super::emission::{LIMIT, Lines, trace};
+use super::emission::{LIMIT, traced};
 use super::logs::Part::{Close, Open, Recv, Release, Rest, Sent};
 use super::logs::{
     CLIENT, CONNACK, CONNECT, LOST, PUBACK, PUBLISH, Part, QUICK_PUBLISH, SERVER, log_of,
     log_with_many,
 };
 use mq_trace::Refusal::{self, TooManyEarly};
-use mq_trace::Tracer;
-use std::process::Abort;
+use std::alloc::Global;
 use std::test::Fail;
 
 /// A client's connection with its CONNECT, up to offset 32.
@@ -111,47 +110,74 @@ const PACKETS: [&[u8]; 10] = [
     b"\xb0\x04\x00\x01\x00\x00",
 ];
 
-// Asserts that a log, in each cutting, gives so many events and this result.
-fn assert_counts(
-    rt: &(impl Abort + AllocGlobal),
+// The first size of pieces in which a log doesn't give so many events and this result.
+fn other_cutting(
+    alloc: Global,
     log: &[u8],
     count: u32,
     answer: Result<(), Refusal>,
-) {
+) -> Option<usize> {
     for size in [usize::MAX, 1, 8192] {
-        let mut tracer = Tracer::new(rt.alloc(), LIMIT);
-        let mut emitted = Lines::new(rt.alloc(), true, u32::MAX);
-        let ended = trace(rt, &mut tracer, LIMIT, log, size, &mut emitted);
-        assert_eq!(rt; ended, answer, "pieces of {size}, {count} events");
-        assert_eq!(rt; emitted.count, count, "pieces of {size}");
+        let (ended, emitted) = traced(alloc, LIMIT, log, size, true);
+        if ended != Some(answer) || emitted.count != count {
+            return Some(size);
+        }
     }
+    None
+}
+
+// The same of a log in which the packet is sent so many times.
+fn other_cutting_of(
+    alloc: Global,
+    (before, after): (&[Part], &[Part]),
+    packet: &[u8],
+    times: usize,
+    count: u32,
+    answer: Result<(), Refusal>,
+) -> Result<Option<usize>, Fail> {
+    let log = log_with_many(alloc, before, packet, times, after)?;
+    Ok(other_cutting(alloc, log.as_slice(), count, answer))
 }
 
 #[test]
 fn goes_on_after_as_many_as_may_come(rt: HostRuntime) -> Result<(), Fail> {
-    for (before, after, count, answer) in FULL {
-        let log = log_with_many(rt.alloc(), before, QUICK_PUBLISH, 4094, after)?;
-        assert_counts(&rt, log.as_slice(), count, answer);
+    for (before, after, count, answer) in &FULL {
+        let parts = (*before, *after);
+        let other = other_cutting_of(rt.alloc(), parts, QUICK_PUBLISH, 4094, *count, *answer)?;
+        assert_eq!(rt; other, None, "{count} events");
     }
     Ok(())
 }
 
 #[test]
 fn refuses_one_too_many(rt: HostRuntime) -> Result<(), Fail> {
-    for (before, packet, times, count, answer) in MANY {
-        let log = log_with_many(rt.alloc(), before, packet, times, &[])?;
-        assert_counts(&rt, log.as_slice(), count, answer);
+    for (before, packet, times, count, answer) in &MANY {
+        let parts: (&[Part], &[Part]) = (*before, &[]);
+        let other = other_cutting_of(rt.alloc(), parts, packet, *times, *count, *answer)?;
+        assert_eq!(rt; other, None, "{times} times, {count} events");
     }
     Ok(())
+}
+
+// The same of a connection with this part and no CONNACK, and then a RELEASE.
+fn other_cutting_after(alloc: Global, part: Part) -> Result<Option<usize>, Fail> {
+    let log = log_of(alloc, false, &[CLIENT, Open, part, Release(1)], false)?;
+    Ok(other_cutting(alloc, log.as_slice(), 3, Ok(())))
 }
 
 #[test]
 fn lets_packets_come_before_the_connack(rt: HostRuntime) -> Result<(), Fail> {
     for packet in PACKETS {
-        for part in [Sent(packet), Recv(packet)] {
-            let log = log_of(rt.alloc(), false, &[CLIENT, Open, part, Release(1)], false)?;
-            assert_counts(&rt, log.as_slice(), 3, Ok(()));
-        }
+        assert_eq!(rt;
+            other_cutting_after(rt.alloc(), Sent(packet))?,
+            None,
+            "{packet:?}"
+        );
+        assert_eq!(rt;
+            other_cutting_after(rt.alloc(), Recv(packet))?,
+            None,
+            "{packet:?}"
+        );
     }
     Ok(())
 }

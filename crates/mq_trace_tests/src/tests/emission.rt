@@ -5,7 +5,6 @@ ghost use Rattle.std.specs.Prelude.{◌≡◌};
 use super::logs::{ANSWERED_LINES, Part, log_of};
 use mq_trace::{Event, Item, Place3, Refusal, Sink, Tracer, UnfinishedPackets};
 use std::alloc::{AllocError, Global};
-use std::process::Abort;
 use std::test::Fail;
 
 /// The limit of `mqjudge`.
@@ -97,57 +96,69 @@ impl Sink for Lines {
     }
 }
 
-/// Feeds a log in pieces of this size, and ends it. No more is kept of a direction than a packet
-/// may have.
+/// How a log ends that is fed in pieces of this size; none if more is kept of a direction than a
+/// packet may have.
 pub fn trace(
-    rt: &impl Abort,
     tracer: &mut Tracer,
     limit: u32,
     log: &[u8],
     size: usize,
     lines: &mut Lines,
-) -> Result<(), Refusal> {
+) -> Option<Result<(), Refusal>> {
     for piece in log.chunks(size.max(1)) {
-        tracer.feed(piece, lines)?;
-        assert!(rt; tracer.pending() as u64 <= 2 * u64::from(limit));
+        if let Err(refusal) = tracer.feed(piece, lines) {
+            return Some(Err(refusal));
+        }
+        if tracer.pending() as u64 > 2 * u64::from(limit) {
+            return None;
+        }
     }
-    tracer.finish()
+    Some(tracer.finish())
 }
 
-/// Asserts that a log, in each cutting, gives these lines and this result.
-pub fn assert_emits(
-    rt: &(impl Abort + AllocGlobal),
+/// How a log ends that a new tracer takes in, in pieces of this size, and its lines.
+pub fn traced(
+    alloc: Global,
+    limit: u32,
+    log: &[u8],
+    size: usize,
+    numbered: bool,
+) -> (Option<Result<(), Refusal>>, Lines) {
+    let mut tracer = Tracer::new(alloc, limit);
+    let mut lines = Lines::new(alloc, numbered, u32::MAX);
+    let ended = trace(&mut tracer, limit, log, size, &mut lines);
+    (ended, lines)
+}
+
+/// The first size of pieces in which a log gives other lines or another result than these.
+pub fn other_cutting(
+    alloc: Global,
     limit: u32,
     log: &[u8],
     numbered: bool,
     begin: &str,
     lines: &str,
     answer: Result<(), Refusal>,
-) {
+) -> Option<usize> {
     for size in [usize::MAX, 1, 7, 8192] {
-        let mut tracer = Tracer::new(rt.alloc(), limit);
-        let mut emitted = Lines::new(rt.alloc(), numbered, u32::MAX);
-        let ended = trace(rt, &mut tracer, limit, log, size, &mut emitted);
-        assert_eq!(rt; ended, answer, "pieces of {size}: {log:?}");
-        let text = emitted.text.as_str();
-        assert!(rt;
-            text.strip_prefix(begin) == Some(lines),
-            "pieces of {size}: {text}"
-        );
+        let (ended, emitted) = traced(alloc, limit, log, size, numbered);
+        if ended != Some(answer) || emitted.text.as_str().strip_prefix(begin) != Some(lines) {
+            return Some(size);
+        }
     }
+    None
 }
 
-/// Asserts that the log of these parts, after those of `ANSWERED` or alone, gives in each cutting
-/// these lines on the parts, and this result.
-pub fn assert_log(
-    rt: &(impl Abort + AllocGlobal),
+/// The same of the log of these parts, after those of `ANSWERED` or alone, with the lines on the
+/// parts.
+pub fn other_cutting_of(
+    alloc: Global,
     connack_seen: bool,
     parts: &[Part],
     lines: &str,
     answer: Result<(), Refusal>,
-) -> Result<(), Fail> {
-    let log = log_of(rt.alloc(), connack_seen, parts, false)?;
+) -> Result<Option<usize>, Fail> {
+    let log = log_of(alloc, connack_seen, parts, false)?;
     let begin = if connack_seen { ANSWERED_LINES } else { "" };
-    assert_emits(rt, LIMIT, log.as_slice(), true, begin, lines, answer);
-    Ok(())
+    Ok(other_cutting(alloc, LIMIT, log.as_slice(), true, begin, lines, answer))
 }

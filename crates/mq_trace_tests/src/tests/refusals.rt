@@ -1,6 +1,6 @@
 //! Logs that are refused, and at which byte.
 
-use super::emission::{LIMIT, assert_emits, assert_log};
+use super::emission::{LIMIT, other_cutting, other_cutting_of};
 use super::logs::Part::{Close, Open, Raw, Recv, Rest, Sent};
 use super::logs::{BEGINNING, CLIENT, CONNACK, CONNECT, END, LARGEST, OLD_CONNECT, Part};
 use mq_trace::Refusal;
@@ -8,7 +8,6 @@ use mq_trace::Refusal::{
     Cut, Flags, Header, Kind, Length, Nested, NotOpen, OtherVersion, ReleaseUnrecorded, Role,
     TooLarge, Version,
 };
-use std::process::Abort;
 use std::test::Fail;
 
 /// The parts of a log, the lines on its events, and why it is refused.
@@ -90,37 +89,38 @@ static LATER_REFUSALS: [Refused; 2] = [
 
 #[test]
 fn reports_refused_logs(rt: HostRuntime) -> Result<(), Fail> {
-    assert_refused(&rt, false, &REFUSALS)?;
-    assert_refused(&rt, true, &LATER_REFUSALS)
-}
-
-// Asserts that each of these logs, after the parts of `ANSWERED` or alone, is refused as it says.
-fn assert_refused(
-    rt: &(impl Abort + AllocGlobal),
-    connack_seen: bool,
-    rows: &[Refused],
-) -> Result<(), Fail> {
-    for (parts, lines, refusal) in rows {
-        assert_log(rt, connack_seen, parts, lines, Err(*refusal))?;
+    for (parts, lines, refusal) in &REFUSALS {
+        let other = other_cutting_of(rt.alloc(), false, parts, lines, Err(*refusal))?;
+        assert_eq!(rt; other, None, "{refusal}");
     }
     Ok(())
 }
 
 #[test]
+fn reports_logs_refused_later(rt: HostRuntime) -> Result<(), Fail> {
+    for (parts, lines, refusal) in &LATER_REFUSALS {
+        let other = other_cutting_of(rt.alloc(), true, parts, lines, Err(*refusal))?;
+        assert_eq!(rt; other, None, "{refusal}");
+    }
+    Ok(())
+}
+
+/// Headers in which one byte is wrong, and their refusals.
+static HEADERS: [(&[u8], Refusal); 8] = [
+    (b"\x03QTR\x01\x01\x00\x00", Header(0)),
+    (b"M\x03TR\x01\x01\x00\x00", Header(1)),
+    (b"MQ\x03R\x01\x01\x00\x00", Header(2)),
+    (b"MQT\x03\x01\x01\x00\x00", Header(3)),
+    (b"MQTR\x03\x01\x00\x00", Version(4)),
+    (b"MQTR\x01\x03\x00\x00", Role(5)),
+    (b"MQTR\x01\x01\x03\x00", Flags(6)),
+    (b"MQTR\x01\x01\x00\x03", Flags(7)),
+];
+
+#[test]
 fn refuses_each_wrong_byte_of_a_header(rt: HostRuntime) {
-    let refusals = [
-        Header(0),
-        Header(1),
-        Header(2),
-        Header(3),
-        Version(4),
-        Role(5),
-        Flags(6),
-        Flags(7),
-    ];
-    for (at, refusal) in refusals.iter().enumerate() {
-        let mut header = *b"MQTR\x01\x01\x00\x00";
-        header[at] = 3;
-        assert_emits(&rt, LIMIT, &header, true, "", "", Err(*refusal));
+    for (header, refusal) in &HEADERS {
+        let other = other_cutting(rt.alloc(), LIMIT, header, true, "", "", Err(*refusal));
+        assert_eq!(rt; other, None, "{refusal}");
     }
 }

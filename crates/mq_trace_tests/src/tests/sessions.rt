@@ -1,13 +1,13 @@
 //! Logs and the lines on their events, whatever the records and wherever a log ends.
 
-use super::emission::{LIMIT, Lines, assert_emits, assert_log, trace};
+use super::emission::{LIMIT, Lines, other_cutting, other_cutting_of, trace, traced};
 use super::logs::Part::{Close, Open, Raw, Recv, Release, Rest, Sent};
 use super::logs::{
     BEGINNING, CLIENT, CONNACK, CONNECT, END, LOST, PUBACK, PUBLISH, Row, SERVER, UNIDENTIFIED,
     log_of,
 };
 use mq_trace::{Header, Refusal, Tracer};
-use std::process::Abort;
+use std::alloc::Global;
 use std::test::Fail;
 
 pub static SESSIONS: [Row; 17] = [
@@ -236,94 +236,97 @@ pub static SESSIONS: [Row; 17] = [
 
 #[test]
 fn reports_sessions(rt: HostRuntime) -> Result<(), Fail> {
-    assert_rows(&rt, &SESSIONS)
-}
-
-// Asserts that the log of each row gives what the row says.
-fn assert_rows(rt: &(impl Abort + AllocGlobal), rows: &[Row]) -> Result<(), Fail> {
-    for row in rows {
-        assert_log(rt, row.connack_seen, row.parts, row.lines, row.answer)?;
+    for (number, row) in SESSIONS.iter().enumerate() {
+        let Row {
+            connack_seen,
+            parts,
+            lines,
+            answer,
+        } = row;
+        let other = other_cutting_of(rt.alloc(), *connack_seen, parts, lines, *answer)?;
+        assert_eq!(rt; other, None, "session {number}");
     }
     Ok(())
+}
+
+// What a log gives, without the records' numbers, and how it ends.
+fn unnumbered(alloc: Global, row: &Row) -> Result<Lines, Fail> {
+    let log = log_of(alloc, row.connack_seen, row.parts, false)?;
+    let (_, emitted) = traced(alloc, LIMIT, log.as_slice(), 8192, false);
+    Ok(emitted)
+}
+
+// The first size of pieces in which a row's log gives other lines where each byte has a record of
+// its own. A log that is refused is left out.
+fn other_split(alloc: Global, row: &Row) -> Result<Option<usize>, Fail> {
+    if row.answer.is_err() {
+        return Ok(None);
+    }
+    let emitted = unnumbered(alloc, row)?;
+    let split = log_of(alloc, row.connack_seen, row.parts, true)?;
+    let lines = emitted.text.as_str();
+    Ok(other_cutting(alloc, LIMIT, split.as_slice(), false, "", lines, Ok(())))
 }
 
 // How bytes are cut into records changes only the records' numbers.
 #[test]
 fn reports_the_same_for_any_records(rt: HostRuntime) -> Result<(), Fail> {
-    assert_any_records(&rt, &SESSIONS)
-}
-
-// Asserts that the log of each row that isn't refused gives the same lines where each byte has a
-// record of its own.
-fn assert_any_records(rt: &(impl Abort + AllocGlobal), rows: &[Row]) -> Result<(), Fail> {
-    for row in rows {
-        let emitted = lines_of(rt, row)?;
-        if row.answer.is_ok() {
-            assert_split(rt, row, emitted.text.as_str())?;
-        }
+    for (number, row) in SESSIONS.iter().enumerate() {
+        assert_eq!(rt; other_split(rt.alloc(), row)?, None, "session {number}");
     }
-    Ok(())
-}
-
-// What a row's log gives, without the records' numbers.
-fn lines_of(rt: &(impl Abort + AllocGlobal), row: &Row) -> Result<Lines, Fail> {
-    let log = log_of(rt.alloc(), row.connack_seen, row.parts, false)?;
-    let mut tracer = Tracer::new(rt.alloc(), LIMIT);
-    let mut emitted = Lines::new(rt.alloc(), false, u32::MAX);
-    let _ = trace(rt, &mut tracer, LIMIT, log.as_slice(), 8192, &mut emitted);
-    Ok(emitted)
-}
-
-// Asserts that a row's log gives these lines where each byte has a record of its own.
-fn assert_split(rt: &(impl Abort + AllocGlobal), row: &Row, lines: &str) -> Result<(), Fail> {
-    let split = log_of(rt.alloc(), row.connack_seen, row.parts, true)?;
-    assert_emits(rt, LIMIT, split.as_slice(), false, "", lines, Ok(()));
     Ok(())
 }
 
 // How many events a log has, its header, and its result.
-fn emitted_of(
-    rt: &(impl Abort + AllocGlobal),
-    log: &[u8],
-) -> (usize, Option<Header>, Result<(), Refusal>) {
-    let mut tracer = Tracer::new(rt.alloc(), LIMIT);
-    let mut emitted = Lines::new(rt.alloc(), true, u32::MAX);
-    let ended = trace(rt, &mut tracer, LIMIT, log, 5, &mut emitted);
+fn emitted_of(alloc: Global, log: &[u8]) -> (usize, Option<Header>, Option<Result<(), Refusal>>) {
+    let mut tracer = Tracer::new(alloc, LIMIT);
+    let mut emitted = Lines::new(alloc, true, u32::MAX);
+    let ended = trace(&mut tracer, LIMIT, log, 5, &mut emitted);
     (emitted.count as usize, tracer.header(), ended)
 }
 
-// Each beginning of a log of 76 bytes is cut short, unless it ends after a record.
-#[test]
-fn reports_beginnings(rt: HostRuntime) -> Result<(), Fail> {
-    let log = log_of(rt.alloc(), true, SESSIONS[1].parts, false)?;
-    assert_beginnings(&rt, log.as_slice());
-    Ok(())
+/// Where the second session's log may end: after its header and each of its records.
+const ENDS: [usize; 8] = [8, 13, 33, 43, 57, 66, 71, 76];
+
+const HEADER: Header = Header {
+    version: 1,
+    server: false,
+    releases: true,
+};
+
+// Whether a beginning of the second session's log is cut short, unless it ends after a record, and
+// gives the events of the records that are whole.
+fn is_cut_short(alloc: Global, begin: &[u8]) -> bool {
+    let count = begin.len();
+    let whole = ENDS.iter().filter(|end| **end <= count).count();
+    let answer = if ENDS.contains(&count) {
+        Ok(())
+    } else {
+        Err(Refusal::Cut(count as u64))
+    };
+    let (events, header, ended) = emitted_of(alloc, begin);
+    events == whole.saturating_sub(1)
+        && header == (count >= 8).then_some(HEADER)
+        && ended == Some(answer)
 }
 
-// Asserts what each beginning of the second session's log gives.
-fn assert_beginnings(rt: &(impl Abort + AllocGlobal), log: &[u8]) {
-    assert_eq!(rt; log.len(), 76);
-    let ends = [8, 13, 33, 43, 57, 66, 71, 76];
-    for count in 0..77 {
-        let whole = ends.iter().filter(|end| **end <= count).count();
-        let header = Header {
-            version: 1,
-            server: false,
-            releases: true,
-        };
-        let answer = if ends.contains(&count) {
-            Ok(())
-        } else {
-            Err(Refusal::Cut(count as u64))
-        };
-        assert_eq!(rt;
-            emitted_of(rt, &log[..count]),
-            (
-                whole.saturating_sub(1),
-                (count >= 8).then_some(header),
-                answer
-            ),
-            "{count} bytes"
-        );
+// How long the first beginning is of which that doesn't hold, or the whole log if it hasn't 76
+// bytes.
+fn first_other_beginning(alloc: Global) -> Result<Option<usize>, Fail> {
+    let log = log_of(alloc, true, SESSIONS[1].parts, false)?;
+    if log.len() != 76 {
+        return Ok(Some(log.len()));
     }
+    for count in 0..77 {
+        if !is_cut_short(alloc, &log[..count]) {
+            return Ok(Some(count));
+        }
+    }
+    Ok(None)
+}
+
+#[test]
+fn reports_beginnings(rt: HostRuntime) -> Result<(), Fail> {
+    assert_eq!(rt; first_other_beginning(rt.alloc())?, None);
+    Ok(())
 }

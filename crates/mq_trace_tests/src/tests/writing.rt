@@ -2,10 +2,10 @@
 use super::logs::{CONNACK, CONNECT, PUBACK, PUBLISH};
 use mq_log::Header;
 use mq_trace::{TraceWriter, WriteFault};
-use std::alloc::AllocError;
+use std::alloc::Global;
 use std::io;
 use std::io::{ErrorKind, Write};
-use std::process::Abort;
+use std::test::Fail;
 
 /// A client connects, publishes a message at QoS 1 and gets the PUBACK, rests, and the connection
 /// ends.
@@ -40,15 +40,15 @@ fn call<W: Write>(trace: &mut TraceWriter<W>, number: usize) -> Result<(), Write
     }
 }
 
-// Makes all the worked log's calls, and asserts that exactly those succeed for which there is room.
-fn assert_calls<W: Write>(rt: &impl Abort, trace: &mut TraceWriter<W>, room: usize) {
-    for (number, end) in ENDS.into_iter().enumerate() {
-        assert_eq!(rt;
-            call(trace, number).is_ok(),
-            end <= room,
-            "call {number}, room for {room}"
-        );
+// Makes all the worked log's calls, and returns the first that doesn't succeed just if there is room
+// for it.
+fn first_other_call<W: Write>(trace: &mut TraceWriter<W>, room: usize) -> Option<usize> {
+    for (number, end) in ENDS.iter().enumerate() {
+        if call(trace, number).is_ok() != (*end <= room) {
+            return Some(number);
+        }
     }
+    None
 }
 
 /// A writer that takes this many bytes, at most three at a time, and then fails once: with an error
@@ -82,132 +82,134 @@ impl Write for Failing {
     }
 }
 
-#[test]
-fn writes_the_worked_log(rt: HostRuntime) {
-    let mut trace = TraceWriter::new(Vec::new(rt.alloc()));
-    for number in 0..ENDS.len() {
-        assert_eq!(rt; call(&mut trace, number), Ok(()), "call {number}");
-    }
-    let written = trace.into_inner();
-    assert_eq!(rt; written.len(), 76);
-    assert!(rt; written.as_slice() == WORKED);
+// Whether the worked log is written by its calls, all of which succeed.
+fn is_worked_log_written(alloc: Global) -> bool {
+    let mut trace = TraceWriter::new(Vec::new(alloc));
+    first_other_call(&mut trace, WORKED.len()).is_none() && trace.into_inner().as_slice() == WORKED
 }
 
-// Asserts that all calls succeeded, and that this is the log that they wrote.
-fn assert_written(rt: &impl Abort, answers: &[Result<(), WriteFault>], written: &[u8], log: &[u8]) {
-    for answer in answers {
-        assert_eq!(rt; *answer, Ok(()));
-    }
-    assert!(rt; written == log);
+#[test]
+fn writes_the_worked_log(rt: HostRuntime) {
+    assert_eq!(rt; WORKED.len(), 76);
+    assert!(rt; is_worked_log_written(rt.alloc()));
+}
+
+// Writes a server's header and two RELEASEs.
+fn write_releases<W: Write>(trace: &mut TraceWriter<W>) -> Result<(), WriteFault> {
+    trace.header(&Header {
+        version: 1,
+        server: true,
+        releases: false,
+    })?;
+    trace.release(0x1234)?;
+    trace.release(1)
+}
+
+// Whether they are written as these bytes.
+fn are_releases_written(alloc: Global, log: &[u8]) -> bool {
+    let mut trace = TraceWriter::new(Vec::new(alloc));
+    write_releases(&mut trace).is_ok() && trace.into_inner().as_slice() == log
 }
 
 #[test]
 fn writes_a_servers_header_and_a_release(rt: HostRuntime) {
-    let mut trace = TraceWriter::new(Vec::new(rt.alloc()));
-    let header = Header {
-        version: 1,
-        server: true,
-        releases: false,
-    };
-    let answers = [
-        trace.header(&header),
-        trace.release(0x1234),
-        trace.release(1),
-    ];
-    let written = trace.into_inner();
     let log = b"MQTR\x01\x01\x00\x00\x06\x00\x00\x00\x02\x12\x34\x06\x00\x00\x00\x02\x00\x01";
-    assert_written(&rt, &answers, written.as_slice(), log);
+    assert!(rt; are_releases_written(rt.alloc(), log));
 }
 
-#[test]
+// Writes a client's header and an OPEN, and at a later moment what was sent and a RELEASE.
 #[tactic(auto, using(mq_trace::proofs::Exports::longest_most))]
-fn writes_moments_in_version_2(rt: HostRuntime) {
-    let mut trace = TraceWriter::new(Vec::new(rt.alloc()));
-    let header = Header {
+fn write_moments<W: Write>(trace: &mut TraceWriter<W>) -> Result<(), WriteFault> {
+    trace.header(&Header {
         version: 2,
         server: false,
         releases: true,
-    };
-    let begun = [trace.header(&header), trace.open()];
+    })?;
+    trace.open()?;
     trace.moment(0x0102_0304_0506_0708);
-    let [headed, opened] = begun;
-    let answers = [headed, opened, trace.sent(b"\xc0\x00"), trace.release(7)];
-    let written = trace.into_inner();
+    trace.sent(b"\xc0\x00")?;
+    trace.release(7)
+}
+
+// Whether they are written as these bytes.
+fn are_moments_written(alloc: Global, log: &[u8]) -> bool {
+    let mut trace = TraceWriter::new(Vec::new(alloc));
+    write_moments(&mut trace).is_ok() && trace.into_inner().as_slice() == log
+}
+
+#[test]
+fn writes_moments_in_version_2(rt: HostRuntime) {
     let log = b"MQTR\x02\x00\x01\x00\
         \x01\x00\x00\x00\x00\x00\x00\x00\x00\x00\x00\x00\x00\
         \x02\x00\x00\x00\x02\x01\x02\x03\x04\x05\x06\x07\x08\xc0\x00\
         \x06\x00\x00\x00\x02\x01\x02\x03\x04\x05\x06\x07\x08\x00\x07";
-    assert_written(&rt, &answers, written.as_slice(), log);
+    assert!(rt; are_moments_written(rt.alloc(), log));
+}
+
+// Whether this is what a record sent without a body gives, and one received with this body.
+fn are_bodies(written: &[u8], body: &[u8]) -> bool {
+    written.len() == 1_048_586
+        && written.starts_with(b"\x02\x00\x00\x00\x00\x03\x00\x10\x00\x00")
+        && written.ends_with(body)
+}
+
+// Whether both are written so.
+#[tactic(auto, using(mq_trace::proofs::Exports::longest_most))]
+fn are_bodies_written(alloc: Global) -> Result<bool, Fail> {
+    let body = vec![in alloc; 0xA5; 1_048_576]?;
+    let mut trace = TraceWriter::new(Vec::new(alloc));
+    trace.sent(&[])?;
+    trace.recv(&body)?;
+    Ok(are_bodies(trace.into_inner().as_slice(), &body))
 }
 
 #[test]
-#[tactic(auto, using(mq_trace::proofs::Exports::longest_most))]
-fn writes_the_shortest_and_the_longest_body(rt: HostRuntime) -> Result<(), AllocError> {
-    let body = vec![in rt.alloc(); 0xA5; 1_048_576]?;
-    let mut trace = TraceWriter::new(Vec::new(rt.alloc()));
-    let answers = [trace.sent(&[]), trace.recv(&body)];
-    let written = trace.into_inner();
-    assert_bodies(&rt, answers, written.as_slice(), &body);
+fn writes_the_shortest_and_the_longest_body(rt: HostRuntime) -> Result<(), Fail> {
+    assert!(rt; are_bodies_written(rt.alloc())?);
     Ok(())
 }
 
-// Asserts that two calls succeeded, and that they wrote a record sent without a body, and one
-// received with this body.
-fn assert_bodies(
-    rt: &impl Abort,
-    answers: [Result<(), WriteFault>; 2],
-    written: &[u8],
-    body: &[u8],
-) {
-    assert_eq!(rt; answers, [Ok(()), Ok(())]);
-    assert_eq!(rt; written.len(), 1_048_586);
-    let heads = b"\x02\x00\x00\x00\x00\x03\x00\x10\x00\x00";
-    assert!(rt; written.starts_with(heads));
-    assert!(rt; written.ends_with(body));
+const UNTOUCHED: [u8; 76] = [0xEE; 76];
+
+// Whether the calls fill the space of a log that has this room, and write nothing after it.
+fn fills(room: usize) -> bool {
+    let mut log = UNTOUCHED;
+    let Some(space) = log.get_mut(..room) else {
+        return false;
+    };
+    let mut trace = TraceWriter::new(space);
+    let is_filled = first_other_call(&mut trace, room).is_none() && trace.into_inner().is_empty();
+    is_filled && log.get(..room) == WORKED.get(..room) && log.get(room..) == UNTOUCHED.get(room..)
 }
 
 #[test]
 fn stops_where_there_is_no_room(rt: HostRuntime) {
     for room in 0..WORKED.len() {
-        let mut log = [0xEE; 76];
-        let mut trace = TraceWriter::new(&mut log[..room]);
-        assert_calls(&rt, &mut trace, room);
-        assert_eq!(rt; trace.into_inner().len(), 0, "room for {room}");
-        assert!(rt; &log[..room] == &WORKED[..room], "room for {room}");
-        assert!(rt;
-            log[room..].iter().all(|byte| *byte == 0xEE),
-            "room for {room}"
-        );
+        assert!(rt; fills(room), "room for {room}");
     }
+}
+
+// Whether a writer that has this room, and then fails in this way, takes the beginning of the
+// worked log alone.
+fn takes_the_beginning(alloc: Global, error: Option<ErrorKind>, room: usize) -> bool {
+    let mut trace = TraceWriter::new(Failing {
+        taken: Vec::new(alloc),
+        room: Some(room),
+        error,
+    });
+    let is_called = first_other_call(&mut trace, room).is_none();
+    let has_failed = is_called && trace.release(1) == Err(WriteFault::Write);
+    has_failed && Some(trace.into_inner().taken.as_slice()) == WORKED.get(..room)
 }
 
 #[test]
 fn writes_nothing_after_a_failure(rt: HostRuntime) {
     for error in [None, Some(ErrorKind::Interrupted), Some(ErrorKind::Other)] {
         for room in 0..WORKED.len() {
-            assert_fails(&rt, error, &WORKED[..room]);
+            assert!(rt;
+                takes_the_beginning(rt.alloc(), error, room),
+                "room for {room}"
+            );
         }
     }
-}
-
-// Asserts that a writer that has room for this beginning of the worked log, and then fails in this
-// way, takes the beginning alone.
-fn assert_fails(rt: &(impl Abort + AllocGlobal), error: Option<ErrorKind>, begin: &[u8]) {
-    let room = begin.len();
-    let mut trace = TraceWriter::new(Failing {
-        taken: Vec::new(rt.alloc()),
-        room: Some(room),
-        error,
-    });
-    assert_calls(rt, &mut trace, room);
-    let later = trace.release(1);
-    let written = trace.into_inner();
-    assert_taken(rt, later, written.taken.as_slice(), begin);
-}
-
-// Asserts that the last call failed, and that what the writer took is this.
-fn assert_taken(rt: &impl Abort, later: Result<(), WriteFault>, taken: &[u8], begin: &[u8]) {
-    let room = begin.len();
-    assert_eq!(rt; later, Err(WriteFault::Write), "room for {room}");
-    assert!(rt; taken == begin, "room for {room}");
 }
