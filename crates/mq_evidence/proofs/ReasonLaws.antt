@@ -9,12 +9,12 @@ use Rattle.mq_rules.specs.Notes.{released_id, received_exactly_once, received_as
 use Rattle.mq_rules.specs.Moments.{Moment, position, note, some, latest, earliest_since}
 use Rattle.mq_rules.specs.Connections.{connection}
 use Rattle.mq_rules.specs.Identifiers.{session_before}
-use Rattle.mq_rules.specs.Exchanges.{Exchange, pubrec_pubrel, subscribe_suback, causes}
+use Rattle.mq_rules.specs.Exchanges.{Exchange, pubrec_pubrel, subscribe_suback, unsubscribe_unsuback, causes}
 use Rattle.mq_rules.specs.Releases.{brings, ends, releases_message, first_brought}
 use Rattle.mq_evidence.specs.Evidence.{in_past, by_filters, by_count, by_request, earliest, is_connack, later, some_session, answered_at, ended_with_session, end_of_asked, refusing_pubrec_in, refuses_id, end_of_confirmed, first_other, end_of_received}
 use Rattle.mq_evidence.specs.Stretches.{Stretches, stretches_before, has_id}
 use Rattle.mq_evidence.specs.Unanswered.{first_but}
-use Rattle.mq_evidence.specs.Requests.{of_grant, of_too_much, of_unsuback}
+use Rattle.mq_evidence.specs.Requests.{of_grant, of_too_much, of_unsuback, of_untruth}
 use Rattle.mq_evidence.proofs.StretchLaws.{only-position, cond-position}
 
 or-position : (a b : Option Moment) → option_map position (option_or a b) ≡ option_or (option_map position a) (option_map position b)
@@ -65,7 +65,7 @@ module _ (role : Role) (f : Fate) (i : ℕ) (k : Moment) where
 pub other-is : (x : Exchange) (i : ℕ) (k : Moment) → first_other x i k ≡ first_but x i (connection k.past)
 other-is x i k = refl
 
--- B03 to B05
+-- B03 to B07
 pub filters-are : by_filters ≡ in_past (λ k. of_grant (connection k.past) (note k))
 filters-are = refl
 
@@ -74,3 +74,6 @@ count-are = refl
 
 pub request-are : by_request subscribe_suback ≡ in_past (λ k. of_too_much (connection k.past) (note k))
 request-are = refl
+
+pub untruth-are : by_request unsubscribe_unsuback ≡ in_past (λ k. of_untruth (connection k.past) (note k))
+untruth-are = refl

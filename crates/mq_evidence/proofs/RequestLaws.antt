@@ -6,7 +6,7 @@ use Rattle.mq_rules.specs.declared.note.Note.{Note}
 use Rattle.mq_rules.specs.declared.packet_note.PacketFields.{PacketFields}
 use Rattle.mq_rules.specs.declared.packet_note.PacketFields.TheVariants.{Subscribe, Unsubscribe}
 use Rattle.mq_rules.specs.Words.{is_id}
-use Rattle.mq_rules.specs.Notes.{Number, Grant, received_fields, received_subscription, received_unsubscription, subscription_in, unsubscription_in, received_as, sent_as, subscribe_in, unsubscribe_in, suback_in, unsuback_in, sent_grant, sent_unsuback}
+use Rattle.mq_rules.specs.Notes.{Grant, received_fields, received_subscription, received_unsubscription, subscription_in, unsubscription_in, received_as, sent_as, subscribe_in, unsubscribe_in, suback_in, unsuback_in, sent_grant, sent_deletion}
 use Rattle.mq_rules.specs.Moments.{Moment, position, note, earliest_since}
 use Rattle.mq_rules.specs.declared.evidence.Evidence.{Evidence}
 use Rattle.mq_rules.specs.declared.evidence.Numbers.TheVariants.{Nothing}
@@ -14,7 +14,7 @@ use Rattle.mq_rules.specs.Evidence.{nothing}
 use Rattle.mq_evidence.specs.declared.requests.Request.{Request}
 use Rattle.mq_evidence.specs.Evidence.{it, it_with, two_of}
 use Rattle.mq_evidence.specs.Stretches.{longer, has_id}
-use Rattle.mq_evidence.specs.Requests.{filters_of, count_of, first_subscribe, first_unsubscribe, request_of, request_next, compared, of_grant, of_too_much, of_unsuback}
+use Rattle.mq_evidence.specs.Requests.{filters_of, count_of, first_subscribe, first_unsubscribe, request_of, request_next, compared, of_grant, of_unsuback}
 
 abbrev request_by : ℕ → ℕ → Request
 request_by filters p = record { position = p; filters = filters }
@@ -73,7 +73,7 @@ subscribed i (Some (Subscribe identifier filters wishes)) h = refl
 subscribed i (Some _) h = absurd (cc)
 
 unsubscribed : (i : ℕ) (o : Option PacketFields) → is_id i (option_and_then unsubscribe_in o) ≡ true
-    → option_map (λ u. u.count) (option_and_then unsubscription_in o) ≡ Some (unwrap_or (option_map (λ u. u.count) (option_and_then unsubscription_in o)) 0)
+    → option_map (λ u. length u.filters) (option_and_then unsubscription_in o) ≡ Some (unwrap_or (option_map (λ u. length u.filters) (option_and_then unsubscription_in o)) 0)
 unsubscribed i None h = absurd (cc)
 unsubscribed i (Some (Unsubscribe identifier filters)) h = refl
 unsubscribed i (Some _) h = absurd (cc)
@@ -90,11 +90,11 @@ compared-grant i codes ms = go (first_subscribe i ms) refl
         (sym (subscribed i (received_fields (note m)) (earliest_since-passes (has_id (received_as subscribe_in) i) (has_id (sent_as suback_in) i) ms m is)))
 
 pub compared-count : (i codes : ℕ) (ms : List Moment) → compared (option_map (request_of count_of) (first_unsubscribe i ms)) codes
-    ≡ it_with (first_unsubscribe i ms) (two_of (option_map (λ u. u.count) (option_and_then (λ j. received_unsubscription (note j)) (first_unsubscribe i ms))) (Some codes))
+    ≡ it_with (first_unsubscribe i ms) (two_of (option_map (λ u. length u.filters) (option_and_then (λ j. received_unsubscription (note j)) (first_unsubscribe i ms))) (Some codes))
 compared-count i codes ms = go (first_unsubscribe i ms) refl
   where
     go : (o : Option Moment) → first_unsubscribe i ms ≡ o → compared (option_map (request_of count_of) o) codes
-        ≡ it_with o (two_of (option_map (λ u. u.count) (option_and_then (λ j. received_unsubscription (note j)) o)) (Some codes))
+        ≡ it_with o (two_of (option_map (λ u. length u.filters) (option_and_then (λ j. received_unsubscription (note j)) o)) (Some codes))
     go None is = refl
     go (Some m) is = ap (λ n. it_with (Some m) (two_of n (Some codes)))
         (sym (unsubscribed i (received_fields (note m)) (earliest_since-passes (has_id (received_as unsubscribe_in) i) (has_id (sent_as unsuback_in) i) ms m is)))
@@ -118,16 +118,16 @@ of_grant-is ms n i codes e = go (sent_grant n)
     go (Some a) h is = let same : (a.identifier, length a.codes) ≡ (i, codes) = cc in is ∙ compared-grant i codes ms ∙ ap (told_of_grant ms) (sym same)
 
 abbrev told_of_unsuback : List Moment → ℕ × ℕ → Evidence
-told_of_unsuback ms q = it_with (first_unsubscribe q.0 ms) (two_of (option_map (λ u. u.count) (option_and_then (λ j. received_unsubscription (note j)) (first_unsubscribe q.0 ms))) (Some q.1))
+told_of_unsuback ms q = it_with (first_unsubscribe q.0 ms) (two_of (option_map (λ u. length u.filters) (option_and_then (λ j. received_unsubscription (note j)) (first_unsubscribe q.0 ms))) (Some q.1))
 
-pub of_unsuback-is : (ms : List Moment) (n : Note) (i codes : ℕ) (e : Evidence) → option_map {U = ℕ × ℕ} (λ a. (a.identifier, a.count)) (sent_unsuback n) ≡ Some (i, codes)
+pub of_unsuback-is : (ms : List Moment) (n : Note) (i codes : ℕ) (e : Evidence) → option_map {U = ℕ × ℕ} (λ a. (a.identifier, length a.codes)) (sent_deletion n) ≡ Some (i, codes)
     → e ≡ compared (option_map (request_of count_of) (first_unsubscribe i ms)) codes → e ≡ of_unsuback ms n
-of_unsuback-is ms n i codes e = go (sent_unsuback n)
+of_unsuback-is ms n i codes e = go (sent_deletion n)
   where
-    go : (o : Option Number) → option_map {U = ℕ × ℕ} (λ a. (a.identifier, a.count)) o ≡ Some (i, codes) → e ≡ compared (option_map (request_of count_of) (first_unsubscribe i ms)) codes
-        → e ≡ unwrap_or (option_map (λ a. told_of_unsuback ms (a.identifier, a.count)) o) nothing
+    go : (o : Option Grant) → option_map {U = ℕ × ℕ} (λ a. (a.identifier, length a.codes)) o ≡ Some (i, codes) → e ≡ compared (option_map (request_of count_of) (first_unsubscribe i ms)) codes
+        → e ≡ unwrap_or (option_map (λ a. told_of_unsuback ms (a.identifier, length a.codes)) o) nothing
     go None h is = absurd (cc)
-    go (Some a) h is = let same : (a.identifier, a.count) ≡ (i, codes) = cc in is ∙ compared-count i codes ms ∙ ap (told_of_unsuback ms) (sym same)
+    go (Some a) h is = let same : (a.identifier, length a.codes) ≡ (i, codes) = cc in is ∙ compared-count i codes ms ∙ ap (told_of_unsuback ms) (sym same)
 
 -- what is said of an event without numbers; where a request is
 abbrev pub by_event : Option ℕ → Evidence
@@ -136,9 +136,11 @@ by_event because = record { because = because; numbers = Nothing }
 abbrev pub place_in : Option Request → Option ℕ
 place_in r = option_map (λ q. q.position) r
 
-pub of_too_much-is : (ms : List Moment) (n : Note) (i : ℕ) (e : Evidence) → sent_as suback_in n ≡ Some i → e ≡ by_event (place_in (option_map (request_of filters_of) (first_subscribe i ms))) → e ≡ of_too_much ms n
-of_too_much-is ms n i e answers is = is ∙ go (first_subscribe i ms) ∙ ap (λ o. unwrap_or (option_map (λ i. it (first_subscribe i ms)) o) nothing) (sym answers)
+-- an answer conflicts with the request that it answers, the first under its identifier
+pub of_answer-is : (count : Note → ℕ) (first : ℕ → Option Moment) (answered : Option ℕ) (i : ℕ) (e : Evidence) → answered ≡ Some i → e ≡ by_event (place_in (option_map (request_of count) (first i)))
+    → e ≡ unwrap_or (option_map (λ i. it (first i)) answered) nothing
+of_answer-is count first answered i e answers is = is ∙ go (first i) ∙ ap (λ o. unwrap_or (option_map (λ i. it (first i)) o) nothing) (sym answers)
   where
-    go : (o : Option Moment) → by_event (place_in (option_map (request_of filters_of) o)) ≡ it o
+    go : (o : Option Moment) → by_event (place_in (option_map (request_of count) o)) ≡ it o
     go None = refl
     go (Some m) = refl

@@ -8,7 +8,7 @@ use Rattle.mq_rules.specs.declared.role.Role.TheVariants.{Client, Server}
 use Rattle.mq_rules.specs.declared.role.Tested.{Tested}
 use Rattle.mq_rules.specs.declared.fate.Fate.{Fate}
 use Rattle.mq_rules.specs.declared.rule.Rule.{Rule}
-use Rattle.mq_rules.specs.declared.rule.Rule.TheVariants.{S01, S02, S03, S04, S05, B01, B02, S07, E7R, E1A, E2A, E3A, E4A, E5A, E6A, E1O, E2O, E3O, B03, B04, B05, L1, L2, L3}
+use Rattle.mq_rules.specs.declared.rule.Rule.TheVariants.{S01, S02, S03, S04, S05, B01, B02, S07, E7R, E1A, E2A, E3A, E4A, E5A, E6A, E1O, E2O, E3O, B03, B04, B05, B06, B07, L1, L2, L3}
 use Rattle.mq_rules.specs.declared.note.Note.{Note}
 use Rattle.mq_rules.specs.declared.note.Note.TheVariants as notes
 use Rattle.mq_rules.specs.declared.note.Seen.{Seen}
@@ -20,6 +20,7 @@ use Rattle.mq_rules.specs.Identifiers.{breaks_S01, breaks_S02, breaks_S03, break
 use Rattle.mq_rules.specs.Exchanges.{breaks_A, breaks_O, breaks_E7R}
 use Rattle.mq_rules.specs.Releases.{breaks_L1, breaks_L2, breaks_L3}
 use Rattle.mq_rules.specs.Subscriptions.{breaks_B01, breaks_B02, breaks_B03, breaks_B04, breaks_B05}
+use Rattle.mq_rules.specs.FurtherSubscriptions.{breaks_B06, breaks_B07, is_clear_before}
 use Rattle.mq_rules.specs.Rules.{binds}
 use Rattle.mq_rules.specs.Statements.{Statement, on_bytes, on_past, in_session, at_release, at_rest, by_later, statement, is_so, is_so_under, where_accepted, fails}
 use Rattle.mq_rules.specs.Faults.{decided}
@@ -53,6 +54,8 @@ found-unshown role E3O f t m h = refl
 found-unshown role B03 f t m h = refl
 found-unshown role B04 f t m h = refl
 found-unshown role B05 f t m h = refl
+found-unshown role B06 f t m h = refl
+found-unshown role B07 f t m h = refl
 found-unshown role L1 f t m h = refl
 found-unshown role L2 f t m h = refl
 found-unshown role L3 f t m h = refl
@@ -69,8 +72,12 @@ breaks_at (at_release breaks) f m = breaks f m
 breaks_at (at_rest shows) f m = false
 breaks_at (by_later shows) f m = false
 
+and-false : (a : Bool) → (a && false) ≡ false
+and-false true = refl
+and-false false = refl
+
 unbroken : (role : Role) (r : Rule) (f : Fate) (p : Place3) (past : List Seen) → is_found r ≡ true → breaks_at (statement role r) f (newest (seen p notes.Open) past) ≡ false
-unfolding breaks_S01 breaks_S02 breaks_S03 breaks_S04 breaks_S05 breaks_S07 breaks_A breaks_O breaks_E7R breaks_L1 breaks_L2 breaks_L3 breaks_B01 breaks_B02 breaks_B03 breaks_B04 breaks_B05 is_binding
+unfolding breaks_S01 breaks_S02 breaks_S03 breaks_S04 breaks_S05 breaks_S07 breaks_A breaks_O breaks_E7R breaks_L1 breaks_L2 breaks_L3 breaks_B01 breaks_B02 breaks_B03 breaks_B04 breaks_B05 breaks_B06 breaks_B07 is_binding
 unbroken Client S01 f p past h = refl
 unbroken Server S01 f p past h = refl
 unbroken role S02 f p past h = refl
@@ -93,6 +100,8 @@ unbroken role E3O f p past h = refl
 unbroken role B03 f p past h = refl
 unbroken role B04 f p past h = refl
 unbroken role B05 f p past h = refl
+unbroken role B06 f p past h = and-false (is_clear_before role f (newest (seen p notes.Open) past))
+unbroken role B07 f p past h = and-false (is_clear_before role f (newest (seen p notes.Open) past))
 unbroken role L1 f p past h = refl
 unbroken role L2 f p past h = refl
 unbroken role L3 f p past h = refl
@@ -129,6 +138,8 @@ direct role E3O h = refl
 direct role B03 h = refl
 direct role B04 h = refl
 direct role B05 h = refl
+direct role B06 h = refl
+direct role B07 h = refl
 direct role L1 h = refl
 direct role L2 h = refl
 direct role L3 h = refl
@@ -158,10 +169,6 @@ shut-where-fails tested log k r finds failing =
     under : (o : Option Fate) (m : Moment) (breaks : Fate → Moment → Bool) → ((f : Fate) → breaks f m ≡ false) → is_so_under breaks m o ≡ false
     under None m breaks h = refl
     under (Some f) m breaks h = h f
-
-    and-false : (a : Bool) → (a && false) ≡ false
-    and-false true = refl
-    and-false false = refl
 
     go : (s : Statement) → is_direct s ≡ true → ((f : Fate) (m : Moment) → is_open (note m) ≡ true → breaks_at s f m ≡ false) → (o : Option Moment) → moment log k ≡ o → is_so tested.role fates s log k ≡ true
         → is_some_and (λ m. not (is_open (note m))) o ≡ true
@@ -225,6 +232,8 @@ on-session tested E3O h = refl
 on-session tested B03 h = refl
 on-session tested B04 h = refl
 on-session tested B05 h = refl
+on-session tested B06 h = refl
+on-session tested B07 h = refl
 on-session tested L1 h = refl
 on-session tested L2 h = refl
 on-session tested L3 h = refl

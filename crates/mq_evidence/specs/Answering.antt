@@ -1,4 +1,4 @@
--- What is kept of all exchanges, for E1A to E6A, E1O to E3O, and B03 to B05.
+-- What is kept of all exchanges, for E1A to E6A, E1O to E3O, and B03 to B07.
 use Rattle.mq_rules.specs.Exchanges.{publish_puback, publish_pubrec, pubrel_pubcomp, subscribe_suback, unsubscribe_unsuback}
 use Rattle.mq_evidence.specs.declared.answering.Answering.{Answering}
 use Rattle.mq_evidence.specs.Stretches.{Stretches}

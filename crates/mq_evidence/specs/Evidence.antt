@@ -12,13 +12,13 @@ use Rattle.mq_rules.specs.declared.role.Role.TheVariants.{Client, Server}
 use Rattle.mq_rules.specs.declared.role.Tested.{Tested}
 use Rattle.mq_rules.specs.declared.fate.Fate.{Fate}
 use Rattle.mq_rules.specs.declared.rule.Rule.{Rule}
-use Rattle.mq_rules.specs.declared.rule.Rule.TheVariants.{W01, W02, W03, W04, W05, W06, W07, W08, W09, W10, W11, W12, W13, W14, W15, W16, W17, W18, W19, W20, W21, C01, C02, C03, C04, C05, C06, C07, C08, C09, C10, C11, C12, C13, C14, C15, C16, C17, C18, C19, C20, C21, C22, C23, S01, S02, S03, S04, S05, S06, S07, E1A, E1R, E1O, E2A, E2R, E2O, E3A, E3R, E3O, E4A, E4R, E5A, E5R, E6A, E6R, E7R, L1, L2, L3, B01, B02, B03, B04, B05, F01, F02, F03, F04, F05, F06, V03, V04, V06, C24, D01, D02, D03, D05, A01, A02, A03, K01, K02}
+use Rattle.mq_rules.specs.declared.rule.Rule.TheVariants.{W01, W02, W03, W04, W05, W06, W07, W08, W09, W10, W11, W12, W13, W14, W15, W16, W17, W18, W19, W20, W21, C01, C02, C03, C04, C05, C06, C07, C08, C09, C10, C11, C12, C13, C14, C15, C16, C17, C18, C19, C20, C21, C22, C23, S01, S02, S03, S04, S05, S06, S07, E1A, E1R, E1O, E2A, E2R, E2O, E3A, E3R, E3O, E4A, E4R, E5A, E5R, E6A, E6R, E7R, L1, L2, L3, B01, B02, B03, B04, B05, B06, B07, F01, F02, F03, F04, F05, F06, V03, V04, V06, C24, D01, D02, D03, D05, A01, A02, A03, K01, K02}
 use Rattle.mq_rules.specs.declared.note.Note.{Note}
 use Rattle.mq_rules.specs.declared.note.Seen.{Seen}
 use Rattle.mq_rules.specs.declared.packet_note.PacketFields.{PacketFields}
 use Rattle.mq_rules.specs.declared.packet_note.PacketFields.TheVariants.{Pubrec}
 use Rattle.mq_rules.specs.Words.{is_some_and, is_id, only}
-use Rattle.mq_rules.specs.Notes.{is_open, sends_type, sent_packet, sent_publish, sent_disconnect, sent_grant, sent_unsuback, received_subscription, received_unsubscription, received_as, sent_as, subscribe_in, unsubscribe_in, connect_of, connack_of, resend_of, released_id, success_pubcomp_in, is_received_pingreq, is_sent_pingresp, refuses, qos_number}
+use Rattle.mq_rules.specs.Notes.{is_open, sends_type, sent_packet, sent_publish, sent_disconnect, sent_grant, sent_deletion, received_subscription, received_unsubscription, received_as, sent_as, subscribe_in, unsubscribe_in, connect_of, connack_of, resend_of, released_id, success_pubcomp_in, is_received_pingreq, is_sent_pingresp, refuses, qos_number}
 use Rattle.mq_rules.specs.Moments.{Moment, position, note, moments, moment, some, latest, count}
 use Rattle.mq_rules.specs.Connections.{number, connection, fate, latest_fate, begins, accepts_at, session}
 use Rattle.mq_rules.specs.Pasts.{is_sent_disconnect, is_sent_refusal, is_last_sent, connect_before, connack_before, peer_maximum_packet_size, peer_topic_alias_maximum, peer_maximum_qos, peer_receive_maximum, used_alias}
@@ -248,8 +248,8 @@ by_filters = in_past (λ k. unwrap_or (option_map (λ a. it_with (first_unanswer
 
 abbrev pub by_count : Reason
 by_count = in_past (λ k. unwrap_or (option_map (λ a. it_with (first_unanswered unsubscribe_unsuback a.identifier k)
-    (two_of (option_map (λ u. u.count) (option_and_then (λ j. received_unsubscription (note j)) (first_unanswered unsubscribe_unsuback a.identifier k))) (Some a.count)))
-    (sent_unsuback (note k))) nothing)
+    (two_of (option_map (λ u. length u.filters) (option_and_then (λ j. received_unsubscription (note j)) (first_unanswered unsubscribe_unsuback a.identifier k))) (Some (length a.codes))))
+    (sent_deletion (note k))) nothing)
 
 -- how many bytes a packet has, and how many the peer takes; a Topic Alias, and the greatest that the peer takes; a QoS likewise
 abbrev pub by_size : Role → Reason
@@ -365,6 +365,8 @@ reason role B02 = by_ceiling role
 reason role B03 = by_filters
 reason role B04 = by_count
 reason role B05 = by_request subscribe_suback
+reason role B06 = by_request unsubscribe_unsuback
+reason role B07 = by_request unsubscribe_unsuback
 reason role F01 = in_past (λ k. it (connack_at Client k))
 reason role F02 = in_past (λ k. it (connack_at Client k))
 reason role F03 = in_past (λ k. it (connack_at Client k))

@@ -1,9 +1,9 @@
--- What is kept of the requests that wait for their answers, for B03 to B05.
+-- What is kept of the requests that wait for their answers, for B03 to B07.
 use Rattle.std.specs.Prelude.{ℕ, ◌≡◌, Bool, cond, List, length, Option, Some, None, option_map, unwrap_or}
 use Rattle.std.specs.Option.{option_and_then, option_or}
 use Rattle.mq_rules.specs.ByIdentifier.{kept}
 use Rattle.mq_rules.specs.declared.note.Note.{Note}
-use Rattle.mq_rules.specs.Notes.{sent_grant, sent_unsuback, received_subscription, received_unsubscription, sent_as, received_as, subscribe_in, suback_in, unsubscribe_in, unsuback_in}
+use Rattle.mq_rules.specs.Notes.{sent_grant, sent_deletion, received_subscription, received_unsubscription, sent_as, received_as, subscribe_in, suback_in, unsubscribe_in, unsuback_in}
 use Rattle.mq_rules.specs.Moments.{Moment, position, note, earliest_since}
 use Rattle.mq_rules.specs.declared.evidence.Evidence.{Evidence}
 use Rattle.mq_rules.specs.Evidence.{nothing}
@@ -17,7 +17,7 @@ abbrev pub filters_of : Note → ℕ
 filters_of n = unwrap_or (option_map (λ s. length s.filters) (received_subscription n)) 0
 
 abbrev pub count_of : Note → ℕ
-count_of n = unwrap_or (option_map (λ u. u.count) (received_unsubscription n)) 0
+count_of n = unwrap_or (option_map (λ u. length u.filters) (received_unsubscription n)) 0
 
 -- the first SUBSCRIBE, or UNSUBSCRIBE, under an identifier that waits for its answer
 abbrev pub first_subscribe : ℕ → List Moment → Option Moment
@@ -34,12 +34,16 @@ of_grant ms n = unwrap_or (option_map (λ a. it_with (first_subscribe a.identifi
 
 abbrev pub of_unsuback : List Moment → Note → Evidence
 of_unsuback ms n = unwrap_or (option_map (λ a. it_with (first_unsubscribe a.identifier ms)
-    (two_of (option_map (λ u. u.count) (option_and_then (λ j. received_unsubscription (note j)) (first_unsubscribe a.identifier ms))) (Some a.count)))
-    (sent_unsuback n)) nothing
+    (two_of (option_map (λ u. length u.filters) (option_and_then (λ j. received_unsubscription (note j)) (first_unsubscribe a.identifier ms))) (Some (length a.codes))))
+    (sent_deletion n)) nothing
 
 -- what a SUBACK conflicts with that grants more than was asked for
 abbrev pub of_too_much : List Moment → Note → Evidence
 of_too_much ms n = unwrap_or (option_map (λ i. it (first_subscribe i ms)) (sent_as suback_in n)) nothing
+
+-- what an UNSUBACK conflicts with that says of a filter what isn't so
+abbrev pub of_untruth : List Moment → Note → Evidence
+of_untruth ms n = unwrap_or (option_map (λ i. it (first_unsubscribe i ms)) (sent_as unsuback_in n)) nothing
 
 -- ---- what is kept
 

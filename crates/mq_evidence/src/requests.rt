@@ -1,12 +1,12 @@
 //! The requests that wait for their answers, with their numbers of Topic Filters (MQTT 5.0,
-//! sections 3.9.3 and 3.11.3): the evidence of B03 to B05.
+//! sections 3.9.3 and 3.11.3): the evidence of B03 to B07.
 ghost use Rattle.std.specs.Prelude.{◌≡◌, ℕ, OnOk, Some, length, option_map};
 ghost use Rattle.mq_rules.specs.ByIdentifier.{kept};
 ghost use Rattle.mq_rules.specs.Words.{is_id};
-ghost use Rattle.mq_rules.specs.Notes.{sent_grant, sent_unsuback};
+ghost use Rattle.mq_rules.specs.Notes.{sent_grant, sent_deletion};
 ghost use Rattle.mq_rules.specs.Moments.{Moment};
 ghost use Rattle.mq_evidence.specs.Stretches.{Stretches, Comes, advanced, nothing_yet};
-ghost use Rattle.mq_evidence.specs.Requests.{IsRequests, request_next, filters_of, count_of, compared, of_grant, of_too_much, of_unsuback};
+ghost use Rattle.mq_evidence.specs.Requests.{IsRequests, request_next, filters_of, count_of, compared, of_grant, of_too_much, of_unsuback, of_untruth};
 
 use crate::turn::Turn;
 use mq_rules::{ByIdentifier, Evidence, Memory, Note, Numbers, PacketFields};
@@ -46,7 +46,7 @@ fn unsubscribed(note: &Note) -> u64
     ensures { result ≡ count_of note.now }
 {
     match note.received_fields() {
-        Some(PacketFields::Unsubscribe { filters, .. }) => *filters as u64,
+        Some(PacketFields::Unsubscribe { filters, .. }) => filters.len() as u64,
         _ => 0,
     }
 }
@@ -63,10 +63,12 @@ fn granted(note: &Note) -> Option<(u16, u64)>
 
 // The Packet Identifier of an UNSUBACK that was sent, and how many Reason Codes it has.
 fn acknowledged(note: &Note) -> Option<(u16, u64)>
-    ensures { result ≡ option_map (λ a. (a.identifier, a.count)) (sent_unsuback note.now) }
+    ensures { result ≡ option_map (λ a. (a.identifier, length a.codes)) (sent_deletion note.now) }
 {
     match note.sent_fields() {
-        Some(PacketFields::Unsuback { identifier, codes }) => Some((*identifier, *codes as u64)),
+        Some(PacketFields::Unsuback { identifier, codes }) => {
+            Some((*identifier, codes.len() as u64))
+        }
         _ => None,
     }
 }
@@ -211,6 +213,17 @@ impl Requests {
         match acknowledged(note) {
             Some((i, codes)) => compare_under(&self.unsubscribes, i, codes),
             None => compare(None, 0),
+        }
+    }
+
+    /// What an UNSUBACK conflicts with that says of a filter what isn't so: the UNSUBSCRIBE that it
+    /// answers. An event that sends no UNSUBACK conflicts with nothing.
+    pub fn of_untruth(&self, note: &Note) -> Evidence
+        ensures { (s : Stretches) → IsRequests self.now s → result ≡ of_untruth s.connection note.now }
+    {
+        match note.sent_unsuback() {
+            Some(i) => Evidence::of(place_of(self.unsubscribes.get(i))),
+            None => Evidence::nothing(),
         }
     }
 }

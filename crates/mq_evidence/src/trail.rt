@@ -280,6 +280,8 @@ impl SessionTrail {
             Rule::B03 => Some(waiting.requests.of_suback(note)),
             Rule::B04 => Some(waiting.requests.of_unsuback(note)),
             Rule::B05 => Some(waiting.requests.of_granting(note)),
+            Rule::B06 => Some(waiting.requests.of_untruth(note)),
+            Rule::B07 => Some(waiting.requests.of_untruth(note)),
             Rule::L1 => Some(self.of_releasing(note)),
             Rule::L2 => Some(self.of_releasing_again(note)),
             Rule::L3 => Some(self.of_completing(note)),

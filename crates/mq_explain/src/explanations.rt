@@ -96,6 +96,8 @@ pub fn explanation(rule: Rule) -> &'static str
         Rule::B03 => deliveries::B03,
         Rule::B04 => deliveries::B04,
         Rule::B05 => further::B05,
+        Rule::B06 => further::B06,
+        Rule::B07 => further::B07,
         Rule::F01 => further::F01,
         Rule::F02 => further::F02,
         Rule::F03 => further::F03,

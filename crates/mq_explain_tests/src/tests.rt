@@ -73,6 +73,17 @@ fn explains_the_keep_alive_to_both_ends(rt: HostRuntime) {
     assert!(rt; explanation(Rule::K02).starts_with(server));
 }
 
+// Two statements on the same Reason Codes.
+#[test]
+fn explains_what_an_unsuback_may_say(rt: HostRuntime) {
+    let denied =
+        "B06 server MQTT-3.10.4-1\nNo UNSUBACK says of a subscription that it doesn't exist.\n\nWhy: ";
+    let deleted =
+        "B07 server sec-3.11.3\nNo UNSUBACK says that a filter was deleted which was never subscribed.\n\nWhy: ";
+    assert!(rt; explanation(Rule::B06).starts_with(denied));
+    assert!(rt; explanation(Rule::B07).starts_with(deleted));
+}
+
 // Two statements that are easily taken for one another.
 #[test]
 fn explains_resends_on_a_connection_and_after_a_pubrel(rt: HostRuntime) {

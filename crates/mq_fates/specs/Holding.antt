@@ -5,7 +5,9 @@ use Rattle.mq_rules.specs.declared.role.Tested.{Tested}
 use Rattle.mq_rules.specs.declared.fate.Fate.{Fate}
 use Rattle.mq_rules.specs.declared.note.Note.{Note}
 use Rattle.mq_rules.specs.declared.note.Seen.{Seen}
-use Rattle.mq_rules.specs.Notes.{is_open, received_subscription, sent_grant}
+use Rattle.mq_rules.specs.declared.packet_note.PacketFields.{PacketFields}
+use Rattle.mq_rules.specs.declared.packet_note.PacketFields.TheVariants.{Subscribe, Suback, Unsubscribe, Unsuback}
+use Rattle.mq_rules.specs.Notes.{is_open, received_fields, sent_fields}
 use Rattle.mq_rules.specs.Moments.{Moment, note, moment, IsPlaced}
 use Rattle.mq_rules.specs.Connections.{number, fate, latest_fate, connection, AreOnConnections}
 use Rattle.mq_rules.specs.declared.role.Role.{Role}
@@ -83,9 +85,20 @@ abbrev pub number_in : {A : Type 0} → (A → ℕ) → Option A → ℕ
 number_in number None = 0
 number_in number (Some a) = number a
 
--- how much an event counts that is held: itself, and the filters of a SUBSCRIBE that is received, or the Reason Codes of a SUBACK that is sent
+-- how many filters the note of a SUBSCRIBE or an UNSUBSCRIBE has, and how many Reason Codes that of a SUBACK or an UNSUBACK
+abbrev pub filters_of : PacketFields → ℕ
+filters_of (Subscribe identifier filters wishes) = length filters
+filters_of (Unsubscribe identifier filters) = length filters
+filters_of _ = 0
+
+abbrev pub codes_of : PacketFields → ℕ
+codes_of (Suback identifier codes) = length codes
+codes_of (Unsuback identifier codes) = length codes
+codes_of _ = 0
+
+-- how much an event counts that is held: itself, and the filters of a request that is received, or the Reason Codes of an answer to one that is sent
 abbrev pub event_size : Note → ℕ
-event_size n = 1 + (number_in (λ s. length s.filters) (received_subscription n) + number_in (λ a. length a.codes) (sent_grant n))
+event_size n = 1 + (number_in filters_of (received_fields n) + number_in codes_of (sent_fields n))
 
 -- how many events of the latest connection wait for its fate, with the filters and Reason Codes that they carry
 unfoldable pub waiting : Role → List Seen → ℕ

@@ -1,6 +1,6 @@
 //! Events of a connection are held until its fate is decided: a client may send packets before its
 //! CONNACK (MQTT 5.0, section 3.1.4).
-ghost use Rattle.std.specs.Prelude.{true, ◌≡◌, ◌∷◌, ◌++◌, ◌&&◌, ◌||◌, ◌+◌, [], ℕ, List, Option, Some, None, is_some, not, reverse, length, cond, OnOk, OnErr, IfOk};
+ghost use Rattle.std.specs.Prelude.{true, ◌≡◌, ◌∷◌, ◌++◌, ◌&&◌, ◌||◌, ◌+◌, [], ℕ, List, Option, Some, None, is_some, not, reverse, cond, OnOk, OnErr, IfOk};
 ghost use Rattle.std.specs.Option.{option_or};
 ghost use Rattle.mq_rules.specs.declared.role.Tested.{Tested as TheTested};
 ghost use Rattle.mq_rules.specs.declared.fate.Fate.{Fate as TheFate};
@@ -8,12 +8,13 @@ ghost use Rattle.mq_rules.specs.declared.fate.Fate.TheVariants as fates;
 ghost use Rattle.mq_rules.specs.Occasions.{places};
 ghost use Rattle.mq_rules.specs.declared.note.Seen.{Seen as TheSeen};
 ghost use Rattle.mq_rules.specs.declared.rule.Rule.{Rule as TheRule};
-ghost use Rattle.mq_rules.specs.Notes.{is_open, note_of_bare, received_subscription, sent_grant};
+ghost use Rattle.mq_rules.specs.Notes.{is_open, note_of_bare, received_fields, sent_fields};
 ghost use Rattle.mq_rules.specs.Connections.{latest_fate};
 ghost use Rattle.mq_rules.specs.Histories.{gives_now, is_left_by};
 ghost use Rattle.mq_rules.specs.Statements.{fails};
 ghost use Rattle.mq_rules.specs.Under.{seen, Follows, is_on_session, turns_with};
 ghost use Rattle.mq_rules.specs.Growing.{Gains, GainsWithin};
+ghost use Rattle.mq_fates.specs.Holding as holding;
 ghost use Rattle.mq_fates.specs.Holding.{is_nothing, CanHand, CanPass, fate_after, turns_held, turns_session, settled, number_in, event_size as size_of, waiting, Holds, IsSettled, held_weigh};
 ghost use Rattle.mq_rules.specs.Weights.{in_word};
 
@@ -93,23 +94,45 @@ fn hold(alloc: Global, held: &mut Vec<Seen>, place: Place3, note: &Note) -> Resu
     Ok(())
 }
 
-// How many filters a SUBSCRIBE has that is received.
-fn filters_in(note: &Note) -> usize
-    ensures { result ≡ number_in (λ s. length s.filters) (received_subscription note.now) }
+// How many filters a packet has, if it is a SUBSCRIBE or an UNSUBSCRIBE.
+fn filters_of(fields: &PacketFields) -> usize
+    ensures { result ≡ holding.filters_of fields.now }
 {
-    match note.received_fields() {
-        Some(PacketFields::Subscribe { filters, .. }) => filters.len(),
+    match fields {
+        PacketFields::Subscribe { filters, .. } => filters.len(),
+        PacketFields::Unsubscribe { filters, .. } => filters.len(),
         _ => 0,
     }
 }
 
-// How many Reason Codes a SUBACK has that is sent.
+// How many Reason Codes it has, if it is a SUBACK or an UNSUBACK.
+fn codes_of(fields: &PacketFields) -> usize
+    ensures { result ≡ holding.codes_of fields.now }
+{
+    match fields {
+        PacketFields::Suback { codes, .. } => codes.len(),
+        PacketFields::Unsuback { codes, .. } => codes.len(),
+        _ => 0,
+    }
+}
+
+// How many filters a packet has that is received.
+fn filters_in(note: &Note) -> usize
+    ensures { result ≡ number_in holding.filters_of (received_fields note.now) }
+{
+    match note.received_fields() {
+        Some(fields) => filters_of(fields),
+        None => 0,
+    }
+}
+
+// How many Reason Codes a packet has that is sent.
 fn codes_in(note: &Note) -> usize
-    ensures { result ≡ number_in (λ a. length a.codes) (sent_grant note.now) }
+    ensures { result ≡ number_in holding.codes_of (sent_fields note.now) }
 {
     match note.sent_fields() {
-        Some(PacketFields::Suback { codes, .. }) => codes.len(),
-        _ => 0,
+        Some(fields) => codes_of(fields),
+        None => 0,
     }
 }
 

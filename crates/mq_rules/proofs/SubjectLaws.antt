@@ -6,14 +6,14 @@ use Rattle.mq_rules.specs.declared.role.Role.TheVariants.{Client, Server}
 use Rattle.mq_rules.specs.declared.role.Tested.{Tested}
 use Rattle.mq_rules.specs.declared.fate.Fate.{Fate}
 use Rattle.mq_rules.specs.declared.rule.Rule.{Rule}
-use Rattle.mq_rules.specs.declared.rule.Rule.TheVariants.{S01, S02, S03, S04, S05, S07, E1A, E1O, E2A, E2O, E3A, E3O, E4A, E5A, E6A, E7R, L1, L2, L3, B01, B02, B03, B04, B05}
+use Rattle.mq_rules.specs.declared.rule.Rule.TheVariants.{S01, S02, S03, S04, S05, S07, E1A, E1O, E2A, E2O, E3A, E3O, E4A, E5A, E6A, E7R, L1, L2, L3, B01, B02, B03, B04, B05, B06, B07}
 use Rattle.mq_rules.specs.declared.note.Note.{Note}
 use Rattle.mq_rules.specs.declared.note.Note.TheVariants as notes
 use Rattle.mq_rules.specs.declared.note.Seen.{Seen}
 use Rattle.mq_rules.specs.declared.packet_note.PacketFields.{PacketFields}
 use Rattle.mq_rules.specs.declared.packet_note.PacketFields.TheVariants.{Publish, Puback, Pubrec, Pubrel, Pubcomp, Subscribe, Suback, Unsubscribe, Unsuback}
 use Rattle.mq_rules.specs.Words.{is_some_and}
-use Rattle.mq_rules.specs.Notes.{sent_fields, received_fields, sent_publish, is_release, released_id, publish_in, puback_in, pubrec_in, pubrel_in, pubcomp_in, success_pubcomp_in, subscribe_in, unsubscribe_in, suback_in, unsuback_in, grant_in, unsuback_count_in, sent_as, delivery_in, delivery_of, opener_in, opener_of, resend_in, resend_of, is_session_packet, needs_session}
+use Rattle.mq_rules.specs.Notes.{sent_fields, received_fields, sent_publish, is_release, released_id, publish_in, puback_in, pubrec_in, pubrel_in, pubcomp_in, success_pubcomp_in, subscribe_in, unsubscribe_in, suback_in, unsuback_in, grant_in, deletion_in, sent_as, delivery_in, delivery_of, opener_in, opener_of, resend_in, resend_of, is_session_packet, needs_session}
 use Rattle.mq_rules.specs.Moments.{Moment, newest, note}
 use Rattle.mq_rules.specs.Connections.{latest_fate, accepts, IsInOrder, couldnt_know, couldnt_know_resumed, is_placed_release}
 use Rattle.mq_rules.specs.Rules.{binds}
@@ -21,6 +21,7 @@ use Rattle.mq_rules.specs.Identifiers.{taken_by, breaks_S01, breaks_S02, breaks_
 use Rattle.mq_rules.specs.Exchanges.{Exchange, publish_puback, publish_pubrec, pubrec_pubrel, pubrel_pubcomp, subscribe_suback, unsubscribe_unsuback, breaks_A, breaks_O}
 use Rattle.mq_rules.specs.Releases.{breaks_L1, breaks_L2, breaks_L3}
 use Rattle.mq_rules.specs.Subscriptions.{breaks_B01, breaks_B02, breaks_B03, breaks_B04, breaks_B05}
+use Rattle.mq_rules.specs.FurtherSubscriptions.{is_clear_before, breaks_B06, breaks_B07}
 use Rattle.mq_rules.specs.Statements.{Statement, on_bytes, on_past, in_session, at_release, at_rest, by_later, statement, knowing, knowing_resumed, where_placed}
 use Rattle.mq_rules.specs.Steps.{JudgedAtOnce, IsLate}
 use Rattle.mq_rules.proofs.BoolLaws.{both_true}
@@ -82,9 +83,9 @@ grant-session : (p : PacketFields) → is_some (grant_in p) ≡ true → is_sess
 grant-session (Suback i codes) h = refl
 grant-session _ h = absurd (cc)
 
-unsuback_count-session : (p : PacketFields) → is_some (unsuback_count_in p) ≡ true → is_session_packet p ≡ true
-unsuback_count-session (Unsuback i codes) h = refl
-unsuback_count-session _ h = absurd (cc)
+deletion-session : (p : PacketFields) → is_some (deletion_in p) ≡ true → is_session_packet p ≡ true
+deletion-session (Unsuback i codes) h = refl
+deletion-session _ h = absurd (cc)
 
 -- ---- subjects
 
@@ -173,7 +174,7 @@ placed : (role : Role) (breaks : Fate → Moment → Bool) → ((log : List Seen
 placed role breaks = late_less role breaks (where_placed role breaks) (λ f m t. (both_true (breaks f m) (is_placed_release role f m) t).0)
 
 all_late : (role : Role) (rule : Rule) → IsLateInOrder role (statement role rule)
-unfolding breaks_S01 breaks_S02 breaks_S03 breaks_S04 breaks_S05 breaks_S07 breaks_L1 breaks_L2 breaks_L3 breaks_B01 breaks_B02 breaks_B03 breaks_B04 breaks_B05
+unfolding breaks_S01 breaks_S02 breaks_S03 breaks_S04 breaks_S05 breaks_S07 breaks_L1 breaks_L2 breaks_L3 breaks_B01 breaks_B02 breaks_B03 breaks_B04 breaks_B05 breaks_B06 breaks_B07
 all_late role S01 = known_resumed role (breaks_S01 role) (by_subject role (breaks_S01 role) (taken_by role) (taken-needs role) (λ f m t. is_there _ (taken_by role (note m)) t))
 all_late role S02 = known role (breaks_S02 role) (by_subject role (breaks_S02 role) resend_of resend-needs (λ f m t. is_there _ (resend_of (note m)) t))
 all_late role S03 = by_subject role (λ f. breaks_S03) resend_of resend-needs (λ f m t. is_there _ (resend_of (note m)) t)
@@ -196,8 +197,12 @@ all_late role L3 = by_subject role (breaks_L3 role) (sent_as success_pubcomp_in)
 all_late role B01 = by_subject role (breaks_B01 role) sent_publish publish-needs (λ f m t. is_there _ (sent_publish (note m)) t)
 all_late role B02 = by_subject role (breaks_B02 role) sent_publish publish-needs (λ f m t. is_there _ (sent_publish (note m)) t)
 all_late role B03 = by_subject role (λ f. breaks_B03) (λ n. option_and_then grant_in (sent_fields n)) (sent-needs grant_in grant-session) (λ f m t. is_there _ (option_and_then grant_in (sent_fields (note m))) t)
-all_late role B04 = by_subject role (λ f. breaks_B04) (λ n. option_and_then unsuback_count_in (sent_fields n)) (sent-needs unsuback_count_in unsuback_count-session) (λ f m t. is_there _ (option_and_then unsuback_count_in (sent_fields (note m))) t)
+all_late role B04 = by_subject role (λ f. breaks_B04) (λ n. option_and_then deletion_in (sent_fields n)) (sent-needs deletion_in deletion-session) (λ f m t. is_there _ (option_and_then deletion_in (sent_fields (note m))) t)
 all_late role B05 = by_subject role (λ f. breaks_B05) (λ n. option_and_then grant_in (sent_fields n)) (sent-needs grant_in grant-session) (λ f m t. is_there _ (option_and_then grant_in (sent_fields (note m))) t)
+all_late role B06 = by_subject role (breaks_B06 role) (λ n. option_and_then deletion_in (sent_fields n)) (sent-needs deletion_in deletion-session)
+    (λ f m t. is_there _ (option_and_then deletion_in (sent_fields (note m))) (both_true (is_clear_before role f m) _ t).1)
+all_late role B07 = by_subject role (breaks_B07 role) (λ n. option_and_then deletion_in (sent_fields n)) (sent-needs deletion_in deletion-session)
+    (λ f m t. is_there _ (option_and_then deletion_in (sent_fields (note m))) (both_true (is_clear_before role f m) _ t).1)
 all_late role _ = tt
 
 -- so in a log in order it is judged at once

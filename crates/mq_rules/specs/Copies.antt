@@ -1,7 +1,7 @@
 -- Which notes own memory of their own, so that a copy needs some.
 use Rattle.std.specs.Prelude.{◌≡◌, ◌<◌, true, is_some, length}
 use Rattle.mq_rules.specs.declared.packet_note.PacketFields.{PacketFields}
-use Rattle.mq_rules.specs.declared.packet_note.PacketFields.TheVariants.{Auth, Connack, Connect, Publish, Subscribe, Suback}
+use Rattle.mq_rules.specs.declared.packet_note.PacketFields.TheVariants.{Auth, Connack, Connect, Publish, Subscribe, Suback, Unsubscribe, Unsuback}
 use Rattle.mq_rules.specs.declared.note.ItemNote.{ItemNote}
 use Rattle.mq_rules.specs.declared.note.ItemNote.TheVariants.{Packet}
 use Rattle.mq_rules.specs.declared.note.Note.{Note}
@@ -14,6 +14,8 @@ fields_own (Connack c method) = is_some method ≡ true
 fields_own (Publish p) = 30 < length p.topic
 fields_own (Subscribe identifier filters wishes) = 0 < length filters
 fields_own (Suback identifier codes) = 0 < length codes
+fields_own (Unsubscribe identifier filters) = 0 < length filters
+fields_own (Unsuback identifier codes) = 0 < length codes
 fields_own (Auth method) = is_some method ≡ true
 fields_own _ = ⊥
 

@@ -1,5 +1,6 @@
 pub mod Words
 pub mod Texts
+pub mod Lists
 pub mod Copies
 pub mod Wishes
 pub mod Notes
@@ -16,6 +17,7 @@ pub mod Passing
 pub mod Exchanges
 pub mod Releases
 pub mod Subscriptions
+pub mod FurtherSubscriptions
 pub mod Rules
 pub mod Bindings
 pub mod Statements

@@ -166,12 +166,12 @@ wishes_note properties filters = wishes_of (is_some (first_varint 11 properties)
 abbrev pub request_fields : Direction → RequestKind → ℕ → List Property → List AskedFilter → PacketFields
 request_fields direction requests.Subscribe identifier properties filters =
     Subscribe identifier (only_list (not (is_sent_direction direction)) (map filter_note filters)) (wishes_note properties filters)
-request_fields direction requests.Unsubscribe identifier properties filters = Unsubscribe identifier (length filters)
+request_fields direction requests.Unsubscribe identifier properties filters = Unsubscribe identifier (only_list (not (is_sent_direction direction)) (map filter_note filters))
 
 -- of SUBACK and UNSUBACK (MQTT 5.0, sections 3.9 and 3.11)
 abbrev pub answer_fields : Direction → RequestKind → ℕ → List ℕ → PacketFields
 answer_fields direction requests.Subscribe identifier codes = Suback identifier (only_list (is_sent_direction direction) codes)
-answer_fields direction requests.Unsubscribe identifier codes = Unsuback identifier (length codes)
+answer_fields direction requests.Unsubscribe identifier codes = Unsuback identifier (only_list (is_sent_direction direction) codes)
 
 -- of any packet, by its type (MQTT 5.0, section 2.1.2)
 abbrev pub packet_fields : Direction → Entry → PacketFields
@@ -636,9 +636,21 @@ abbrev pub success_pubcomp_in : PacketFields → Option ℕ
 success_pubcomp_in (Pubcomp identifier code) = only (code == 0) (Some identifier)
 success_pubcomp_in _ = None
 
+-- ---- bytes that break a rule
+
+-- The rule that the bytes which the tested end sent break, and where: in a direction that is lost the Remaining Length breaks W03, at the
+-- packet's second byte.
+abbrev pub broken_in : ItemNote → Option BodyFault
+broken_in (items.Packet p) = None
+broken_in (items.Bad first rule at large) = Some (record { at = at; rule = rule })
+broken_in items.Lost = Some (record { at = 1; rule = packet_rules.W03 })
+
+abbrev pub sent_fault : Note → Option BodyFault
+sent_fault note = option_and_then broken_in (sent_item note)
+
 -- ---- subscriptions (MQTT 5.0, sections 3.8 to 3.11)
 
--- an identifier, and the filters of a SUBSCRIBE; the Reason Codes of a SUBACK; how many there are in an UNSUBSCRIBE or UNSUBACK
+-- an identifier, and the filters of a SUBSCRIBE or an UNSUBSCRIBE; and the Reason Codes of a SUBACK or an UNSUBACK
 pub record Subscription : Type 0 where
   pub identifier : ℕ
   pub filters : List NotedFilter
@@ -646,10 +658,6 @@ pub record Subscription : Type 0 where
 pub record Grant : Type 0 where
   pub identifier : ℕ
   pub codes : List ℕ
-
-pub record Number : Type 0 where
-  pub identifier : ℕ
-  pub count : ℕ
 
 abbrev pub subscription_in : PacketFields → Option Subscription
 subscription_in (Subscribe identifier filters wishes) = Some (record { identifier = identifier; filters = filters })
@@ -659,13 +667,13 @@ abbrev pub grant_in : PacketFields → Option Grant
 grant_in (Suback identifier codes) = Some (record { identifier = identifier; codes = codes })
 grant_in _ = None
 
-abbrev pub unsubscription_in : PacketFields → Option Number
-unsubscription_in (Unsubscribe identifier filters) = Some (record { identifier = identifier; count = filters })
+abbrev pub unsubscription_in : PacketFields → Option Subscription
+unsubscription_in (Unsubscribe identifier filters) = Some (record { identifier = identifier; filters = filters })
 unsubscription_in _ = None
 
-abbrev pub unsuback_count_in : PacketFields → Option Number
-unsuback_count_in (Unsuback identifier codes) = Some (record { identifier = identifier; count = codes })
-unsuback_count_in _ = None
+abbrev pub deletion_in : PacketFields → Option Grant
+deletion_in (Unsuback identifier codes) = Some (record { identifier = identifier; codes = codes })
+deletion_in _ = None
 
 -- a SUBSCRIBE and an UNSUBSCRIBE that were received, and a SUBACK and an UNSUBACK that were sent
 abbrev pub received_subscription : Note → Option Subscription
@@ -674,11 +682,19 @@ received_subscription note = option_and_then subscription_in (received_fields no
 abbrev pub sent_grant : Note → Option Grant
 sent_grant note = option_and_then grant_in (sent_fields note)
 
-abbrev pub received_unsubscription : Note → Option Number
+abbrev pub received_unsubscription : Note → Option Subscription
 received_unsubscription note = option_and_then unsubscription_in (received_fields note)
 
-abbrev pub sent_unsuback : Note → Option Number
-sent_unsuback note = option_and_then unsuback_count_in (sent_fields note)
+abbrev pub sent_deletion : Note → Option Grant
+sent_deletion note = option_and_then deletion_in (sent_fields note)
+
+-- Bytes of a SUBSCRIBE or an UNSUBSCRIBE that break a rule, or that can't be cut into packets, so that these may be among them: nobody can tell from the log what
+-- was taken in of them.
+abbrev pub is_unclear : ItemNote → Bool
+is_unclear item = is_some (broken_in item) && (not (is_typed item) || (is_of_type types.Subscribe item || is_of_type types.Unsubscribe item))
+
+abbrev pub receives_unclear : Note → Bool
+receives_unclear note = is_some_and is_unclear (received_item note)
 
 -- ---- sessions (MQTT 5.0, section 4.1)
 
@@ -692,8 +708,8 @@ needs_session note = is_release note || (is_some_and is_session_packet (sent_fie
 
 -- ---- memory
 
--- The note has a text or a list of its own, which takes memory: the Topic Name of a PUBLISH that was sent, the Topic Filters of a SUBSCRIBE that was received, the Reason
--- Codes of a SUBACK that was sent, or the Authentication Method of a CONNECT, or of an AUTH or a CONNACK that was sent.
+-- The note has a text or a list of its own, which may take memory: the Topic Name of a PUBLISH that was sent, the Topic Filters of a SUBSCRIBE or an UNSUBSCRIBE that was
+-- received, the Reason Codes of a SUBACK or an UNSUBACK that was sent, or the Authentication Method of a CONNECT, or of an AUTH or a CONNACK that was sent.
 abbrev pub keeps_text : PacketFields → Bool
 keeps_text (Connect c method) = is_some method
 keeps_text (Connack c method) = is_some method
@@ -704,8 +720,8 @@ keeps_text (Pubrel identifier code) = false
 keeps_text (Pubcomp identifier code) = false
 keeps_text (Subscribe identifier filters wishes) = not (length filters == 0)
 keeps_text (Suback identifier codes) = not (length codes == 0)
-keeps_text (Unsubscribe identifier filters) = false
-keeps_text (Unsuback identifier codes) = false
+keeps_text (Unsubscribe identifier filters) = not (length filters == 0)
+keeps_text (Unsuback identifier codes) = not (length codes == 0)
 keeps_text Pingreq = false
 keeps_text Pingresp = false
 keeps_text (Disconnect d) = false
@@ -716,15 +732,3 @@ item_keeps_text item = is_some_and (λ p. keeps_text p.fields) (packet_in item)
 
 abbrev pub note_keeps_text : Note → Bool
 note_keeps_text note = is_some_and item_keeps_text (sent_item note) || is_some_and item_keeps_text (received_item note)
-
--- ---- bytes that break a rule
-
--- The rule that the bytes which the tested end sent break, and where: in a direction that is lost the Remaining Length breaks W03, at the
--- packet's second byte.
-abbrev pub broken_in : ItemNote → Option BodyFault
-broken_in (items.Packet p) = None
-broken_in (items.Bad first rule at large) = Some (record { at = at; rule = rule })
-broken_in items.Lost = Some (record { at = 1; rule = packet_rules.W03 })
-
-abbrev pub sent_fault : Note → Option BodyFault
-sent_fault note = option_and_then broken_in (sent_item note)

@@ -12,7 +12,7 @@ use Rattle.mq_rules.specs.declared.note.Note.{Note}
 use Rattle.mq_rules.specs.declared.text.NotedFilter.{NotedFilter}
 use Rattle.mq_rules.specs.declared.packet_note.PublishNote.{PublishNote}
 use Rattle.mq_rules.specs.Words.{is_some_and, is_id, only}
-use Rattle.mq_rules.specs.Notes.{is_acknowledged, sent_publish, received_subscription, sent_grant, received_unsubscription, sent_unsuback, refuses, qos_number}
+use Rattle.mq_rules.specs.Notes.{is_acknowledged, sent_publish, received_subscription, sent_grant, received_unsubscription, sent_deletion, refuses, qos_number}
 use Rattle.mq_rules.specs.Moments.{Moment, note, is_after, some, those, first_found}
 use Rattle.mq_rules.specs.Connections.{number, of_connection, connection}
 use Rattle.mq_rules.specs.Pasts.{set_alias}
@@ -107,11 +107,11 @@ breaks_B03 k = is_some_and (λ a. is_some_and (λ j. is_some_and (λ s. not (len
 
 -- B04: whenever an UNSUBACK answers an unanswered UNSUBSCRIBE, it has as many Reason Codes as the first of these has filters.
 unfoldable pub applies_B04 : Moment → Bool
-applies_B04 k = is_some_and (λ a. is_some (first_unanswered unsubscribe_unsuback a.identifier k)) (sent_unsuback (note k))
+applies_B04 k = is_some_and (λ a. is_some (first_unanswered unsubscribe_unsuback a.identifier k)) (sent_deletion (note k))
 
 unfoldable pub breaks_B04 : Moment → Bool
-breaks_B04 k = is_some_and (λ a. is_some_and (λ j. is_some_and (λ u. not (u.count == a.count)) (received_unsubscription (note j)))
-    (first_unanswered unsubscribe_unsuback a.identifier k)) (sent_unsuback (note k))
+breaks_B04 k = is_some_and (λ a. is_some_and (λ j. is_some_and (λ u. not (length u.filters == length a.codes)) (received_unsubscription (note j)))
+    (first_unanswered unsubscribe_unsuback a.identifier k)) (sent_deletion (note k))
 
 -- the Maximum QoS that each of these filters asks for
 abbrev pub requested_each : List NotedFilter → List ℕ

@@ -12,7 +12,7 @@ use Rattle.mq_rules.specs.declared.note.ItemNote.TheVariants as items
 use Rattle.mq_rules.specs.declared.note.Seen.{Seen}
 use Rattle.mq_rules.specs.declared.packet_note.PacketNote.{PacketNote}
 use Rattle.mq_rules.specs.declared.packet_note.PacketFields.{PacketFields}
-use Rattle.mq_rules.specs.declared.packet_note.PacketFields.TheVariants.{Connect, Connack, Publish, Subscribe, Disconnect, Auth}
+use Rattle.mq_rules.specs.declared.packet_note.PacketFields.TheVariants.{Connect, Connack, Publish, Subscribe, Unsubscribe, Disconnect, Auth}
 use Rattle.mq_rules.specs.declared.packet_note.ConnectNote.{ConnectNote}
 use Rattle.mq_rules.specs.Rules.{all_further, none_further, without_times}
 use Rattle.mq_rules.specs.Statements.{fails}
@@ -287,6 +287,23 @@ asks_b i qos = Subscribe i (record { filter = 98 ∷ []; options = qos } ∷ [])
 -- one to both
 abbrev pub asks_both : ℕ → ℕ → ℕ → PacketFields
 asks_both i qos other = Subscribe i (record { filter = 97 ∷ []; options = qos } ∷ record { filter = 98 ∷ []; options = other } ∷ []) nothing_wished
+
+-- one to `a` twice
+abbrev pub asks_twice : ℕ → PacketFields
+asks_twice i = Subscribe i (record { filter = 97 ∷ []; options = 0 } ∷ record { filter = 97 ∷ []; options = 0 } ∷ []) nothing_wished
+
+-- an UNSUBSCRIBE of `a`, of `b`, of both, and of `a` twice
+abbrev pub removes_a : ℕ → PacketFields
+removes_a i = Unsubscribe i (record { filter = 97 ∷ []; options = 0 } ∷ [])
+
+abbrev pub removes_b : ℕ → PacketFields
+removes_b i = Unsubscribe i (record { filter = 98 ∷ []; options = 0 } ∷ [])
+
+abbrev pub removes_both : ℕ → PacketFields
+removes_both i = Unsubscribe i (record { filter = 97 ∷ []; options = 0 } ∷ record { filter = 98 ∷ []; options = 0 } ∷ [])
+
+abbrev pub removes_twice : ℕ → PacketFields
+removes_twice i = Unsubscribe i (record { filter = 97 ∷ []; options = 0 } ∷ record { filter = 97 ∷ []; options = 0 } ∷ [])
 
 -- a SUBSCRIBE to the shared subscription `$share/g/a`
 abbrev pub asks_shared : ℕ → PacketFields

@@ -2,8 +2,9 @@
 //! they were read from.
 //!
 //! Memory is taken only for a text that some statement looks at: the Topic Name of a PUBLISH that
-//! was sent, the Topic Filters of a SUBSCRIBE that was received, the Reason Codes of a SUBACK that
-//! was sent, and the Authentication Method of a CONNECT, or of an AUTH or a CONNACK that was sent.
+//! was sent, the Topic Filters of a SUBSCRIBE or an UNSUBSCRIBE that was received, the Reason Codes
+//! of a SUBACK or an UNSUBACK that was sent, and the Authentication Method of a CONNECT, or of an
+//! AUTH or a CONNACK that was sent.
 ghost use Rattle.std.specs.Prelude.{◌≡◌, ◌&&◌, ◌<◌, ◌≤◌, [], true, false, None, is_some, length, slice_index, option_map, unwrap_or, IfOk, OnErr};
 ghost use Rattle.mq_props.specs.First.{first_two_bytes, first_four_bytes, first_varint, first_text, first_pair};
 ghost use Rattle.mq_packet.specs.declared.packet.RequestKind.TheVariants as requests;
@@ -18,15 +19,16 @@ ghost use Rattle.mq_rules.specs.Notes.{only_list, is_sent_direction, begins_ackn
 
 use crate::faults::Memory;
 use crate::keep_alive::is_large;
+use crate::lists::{CodeList, FilterList};
 use crate::method::Method;
 use crate::note::{ItemNote, Note};
 use crate::packet_note::{
     ConnackNote, ConnectNote, DisconnectNote, PacketFields, PacketNote, PublishNote, WillNote,
     WishesNote,
 };
-use crate::text::{CodeList, FilterList, Text};
+use crate::text::Text;
 use mq_log::{Direction, Event, Item};
-use mq_packet::{Answer, Codes, Connack, Connect, Packet, Publish, ReasonPacket, Request, Will};
+use mq_packet::{Codes, Connack, Connect, Packet, Publish, ReasonPacket, Request, Will};
 use mq_props::Props;
 use std::alloc::Global;
 
@@ -365,26 +367,40 @@ fn suback_fields(
     Ok(PacketFields::Suback { identifier, codes })
 }
 
-// What the statements look at of this UNSUBSCRIBE, whichever way it went: its Packet Identifier,
-// and how many filters it has.
-fn unsubscribe_fields(request: &Request<'_>) -> PacketFields
-    ensures { result ≡ fields.Unsubscribe request.now.identifier (length request.now.filters) }
+// What the statements look at in this UNSUBSCRIBE, which went this way.
+fn unsubscribe_fields(
+    alloc: Global,
+    direction: Direction,
+    request: &Request<'_>,
+) -> Result<PacketFields, Memory>
+    ensures exact { IfOk result (λ fields. fields ≡ request_fields direction requests.Unsubscribe request.now.identifier request.now.properties.items request.now.filters) }
+    ensures needed { OnErr result (keeps_text (request_fields direction requests.Unsubscribe request.now.identifier request.now.properties.items request.now.filters) ≡ true) }
 {
-    PacketFields::Unsubscribe {
+    let filters = match direction {
+        Direction::Sent => FilterList::empty(alloc),
+        Direction::Recv => FilterList::of(alloc, &request.filters)?,
+    };
+    Ok(PacketFields::Unsubscribe {
         identifier: request.identifier,
-        filters: request.filters.iter().count(),
-    }
+        filters,
+    })
 }
 
-// What the statements look at of this UNSUBACK, whichever way it went: its Packet Identifier, and
-// how many Reason Codes it has.
-fn unsuback_fields(answer: &Answer<'_>) -> PacketFields
-    ensures { result ≡ fields.Unsuback answer.now.identifier (length answer.now.codes) }
+// What the statements look at in an UNSUBACK with these Reason Codes, which went this way.
+fn unsuback_fields(
+    alloc: Global,
+    direction: Direction,
+    identifier: u16,
+    codes: &Codes<'_>,
+) -> Result<PacketFields, Memory>
+    ensures exact { IfOk result (λ fields. fields ≡ answer_fields direction requests.Unsubscribe identifier codes.now) }
+    ensures needed { OnErr result (keeps_text (answer_fields direction requests.Unsubscribe identifier codes.now) ≡ true) }
 {
-    PacketFields::Unsuback {
-        identifier: answer.identifier,
-        codes: answer.codes.as_bytes().len(),
-    }
+    let codes = match direction {
+        Direction::Sent => CodeList::of(alloc, codes)?,
+        Direction::Recv => CodeList::empty(alloc),
+    };
+    Ok(PacketFields::Unsuback { identifier, codes })
 }
 
 impl PacketFields {
@@ -434,8 +450,13 @@ impl PacketFields {
                 answer.identifier,
                 &answer.codes,
             ),
-            Packet::Unsubscribe(request) => Ok(unsubscribe_fields(request)),
-            Packet::Unsuback(answer) => Ok(unsuback_fields(answer)),
+            Packet::Unsubscribe(request) => unsubscribe_fields(alloc, direction, request),
+            Packet::Unsuback(answer) => unsuback_fields(
+                alloc,
+                direction,
+                answer.identifier,
+                &answer.codes,
+            ),
             Packet::Disconnect(disconnect) => {
                 Ok(PacketFields::Disconnect(DisconnectNote::of(disconnect)))
             }
@@ -576,9 +597,9 @@ impl Note {
     /// # Errors
     ///
     /// `Memory` if there is no memory for a text that is kept: the Topic Name of a PUBLISH that was
-    /// sent, the Topic Filters of a SUBSCRIBE that was received, the Reason Codes of a SUBACK that
-    /// was sent, or the Authentication Method of a CONNECT, or of an AUTH or a CONNACK that was
-    /// sent. Any other event takes no memory.
+    /// sent, the Topic Filters of a SUBSCRIBE or an UNSUBSCRIBE that was received, the Reason Codes
+    /// of a SUBACK or an UNSUBACK that was sent, or the Authentication Method of a CONNECT, or of an
+    /// AUTH or a CONNACK that was sent. Any other event takes no memory.
     #[inline(always)]
     pub fn of(alloc: Global, event: &Event<'_>) -> Result<Note, Memory>
         ensures exact { IfOk result (λ note. note ≡ note_of (event_of event.now)) }

@@ -30,8 +30,8 @@ pub fn copy_text(alloc: Global, text: &str) -> Result<String, Memory>
     Ok(copy)
 }
 
-// What is noted of the filter: a copy, with its Subscription Options.
-fn note_filter_of(alloc: Global, filter: Filter<'_>) -> Result<NotedFilter, Memory>
+/// What is noted of the filter: a copy, with its Subscription Options.
+pub fn note_filter_of(alloc: Global, filter: Filter<'_>) -> Result<NotedFilter, Memory>
     ensures { IfOk result (λ note. note ≡ filter_note (filter_view filter.entry)) }
 {
     let options = filter.options.unwrap_or(0);
@@ -51,8 +51,8 @@ pub fn note_filters(alloc: Global, filters: &Filters<'_>) -> Result<Vec<NotedFil
     Ok(notes)
 }
 
-// A copy of the filter, with its Subscription Options.
-fn copy_filter(alloc: Global, filter: &NotedFilter) -> Result<NotedFilter, Memory>
+/// A copy of the filter, with its Subscription Options.
+pub fn copy_filter(alloc: Global, filter: &NotedFilter) -> Result<NotedFilter, Memory>
     ensures { IfOk result (λ copy. copy ≡ filter.now) }
 {
     let options = filter.options;

@@ -4,8 +4,9 @@
 //!
 //! To learn what the statements say, read the definitions in `specs/` alone: `Notes` (one event),
 //! `Moments` (words on what comes before an event), `Connections`, and then a file for each family:
-//! `Pasts`, `Identifiers`, `Exchanges`, `Releases` and `Subscriptions`; `Statements` has a line for
-//! each statement, and `Faults` says what is reported.
+//! `Pasts`, `Identifiers`, `Exchanges`, `Releases` and `Subscriptions`, and those of further ones,
+//! `FurtherPasts`, `FurtherRests`, `FurtherSubscriptions` and `KeepAlive`; `Statements` has a line
+//! for each statement, and `Faults` says what is reported.
 #![tactic(auto)]
 
 mod bare;
@@ -19,6 +20,7 @@ mod fault;
 mod faults;
 mod history;
 mod keep_alive;
+mod lists;
 mod method;
 mod naming;
 mod note;
@@ -47,6 +49,7 @@ pub use fault::Fault;
 pub use faults::{FaultKey, Faults, Memory};
 pub use history::History;
 pub use keep_alive::{client_limit, is_large, server_limit};
+pub use lists::{CodeList, FilterList};
 pub use method::Method;
 pub use naming::each_statement_is_named;
 pub use note::{ItemNote, Note, Seen};
@@ -62,5 +65,5 @@ pub use qos::qos_number;
 pub use role::{Further, Role, Tested};
 pub use rule::Rule;
 pub use table_laws::{each_statement_binds_its_ends, each_statement_has_its_row, rows_ascend};
-pub use text::{CodeList, FilterList, NotedFilter, Text};
+pub use text::{NotedFilter, Text};
 pub use watch::{Both, Brisk, Watch, step_apart};

@@ -125,6 +125,8 @@ impl Rule {
             Rule::B03 => "A SUBACK has a Reason Code for each filter.",
             Rule::B04 => "An UNSUBACK has a Reason Code for each filter.",
             Rule::B05 => "A SUBACK grants no more than was asked for.",
+            Rule::B06 => "No UNSUBACK says of a subscription that it doesn't exist.",
+            Rule::B07 => "No UNSUBACK says that a filter was deleted which was never subscribed.",
             Rule::F01 => "A new PUBLISH has RETAIN 0 where Retain Available is 0.",
             Rule::F02 => "No filter has a wildcard where the server takes none.",
             Rule::F03 => "No SUBSCRIBE has a Subscription Identifier where the server takes none.",

@@ -142,6 +142,20 @@ impl ItemNote {
         }
     }
 
+    /// Whether these are bytes of a SUBSCRIBE or an UNSUBSCRIBE that break a rule, or bytes that
+    /// can't be cut into packets, among which such packets may be.
+    pub fn is_unclear(&self) -> bool
+        ensures { result ≡ notes.is_unclear self.now }
+    {
+        match self {
+            ItemNote::Packet(_) => false,
+            ItemNote::Bad { .. } => {
+                self.is_of_type(PacketType::Subscribe) || self.is_of_type(PacketType::Unsubscribe)
+            }
+            ItemNote::Lost => true,
+        }
+    }
+
     /// The rule that these bytes break, and where in the packet. If the direction is lost, its
     /// Remaining Length breaks W03, at the packet's second byte.
     #[inline]
@@ -257,6 +271,17 @@ impl Note {
         match self {
             Note::Recv(item) => Some(item),
             _ => None,
+        }
+    }
+
+    /// Whether the tested end received bytes of a SUBSCRIBE or an UNSUBSCRIBE that break a rule, or
+    /// bytes that can't be cut into packets, among which such packets may be.
+    pub fn receives_unclear(&self) -> bool
+        ensures { result ≡ notes.receives_unclear self.now }
+    {
+        match self {
+            Note::Recv(item) => item.is_unclear(),
+            _ => false,
         }
     }
 

@@ -63,11 +63,11 @@ fn copy_fields(alloc: Global, fields: &PacketFields) -> Result<PacketFields, Mem
             filters,
         } => PacketFields::Unsubscribe {
             identifier: *identifier,
-            filters: *filters,
+            filters: filters.copy(alloc)?,
         },
         PacketFields::Unsuback { identifier, codes } => PacketFields::Unsuback {
             identifier: *identifier,
-            codes: *codes,
+            codes: codes.copy(alloc)?,
         },
         PacketFields::Pingreq => PacketFields::Pingreq,
         PacketFields::Pingresp => PacketFields::Pingresp,

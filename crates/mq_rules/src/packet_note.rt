@@ -5,8 +5,9 @@ ghost use Rattle.mq_rules.specs.Words.{only};
 ghost use Rattle.mq_rules.specs.Notes.{fate_by, resumed_by, refuses as is_refusing, is_acknowledged, delivery_in, opener_in, resend_in, is_at_least_once, is_exactly_once, fields_type, connect_in, connect_method_in, method_in, is_auth as authenticates, connack_in, publish_in, disconnect_in, wishes_in, receipt_code_in, puback_in, pubrec_in, accepting_pubrec_in, pubrel_in, pubcomp_in, subscribe_in, suback_in, unsubscribe_in, unsuback_in, settled_in, ended_in, unmatched_pubrec_in, success_pubcomp_in, is_pingreq as pings, is_pingresp as answers_ping, is_session_packet as needs_a_session, may_explain as explains};
 
 use crate::fate::Fate;
+use crate::lists::{CodeList, FilterList};
 use crate::method::Method;
-use crate::text::{CodeList, FilterList, Text};
+use crate::text::Text;
 use mq_packet::{PacketType, Qos};
 
 /// The lowest Reason Code that refuses (MQTT 5.0, section 2.4).
@@ -207,15 +208,17 @@ pub enum PacketFields {
     Unsubscribe {
         /// The Packet Identifier.
         identifier: u16,
-        /// How many Topic Filters it has.
-        filters: usize,
+        /// The Topic Filters of an UNSUBSCRIBE that the tested end received. It is empty for one
+        /// that the tested end sent, since no statement looks at them.
+        filters: FilterList,
     },
     /// UNSUBACK.
     Unsuback {
         /// The Packet Identifier of the UNSUBSCRIBE that it answers.
         identifier: u16,
-        /// How many Reason Codes it has.
-        codes: usize,
+        /// The Reason Codes of an UNSUBACK that the tested end sent. It is empty for one that the
+        /// tested end received, since no statement looks at them.
+        codes: CodeList,
     },
     /// PINGREQ.
     Pingreq,

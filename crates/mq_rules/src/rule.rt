@@ -175,6 +175,11 @@ pub enum Rule {
     B04,
     /// A SUBACK grants no more than was asked for (MQTT 5.0, section 3.9.3).
     B05,
+    /// No UNSUBACK says of a subscription that it doesn't exist (MQTT 5.0, section 3.10.4).
+    B06,
+    /// No UNSUBACK says that a filter was deleted which was never subscribed (MQTT 5.0, section
+    /// 3.11.3).
+    B07,
     /// A new PUBLISH has RETAIN 0 where Retain Available is 0 (MQTT 5.0, section 3.2.2.3.5).
     F01,
     /// No filter has a wildcard where the server takes none (MQTT 5.0, section 3.2.2.3.11).

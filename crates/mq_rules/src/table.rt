@@ -39,7 +39,7 @@ pub enum Judged {
 pub type Row = (Rule, &'static str, Ends, &'static str, &'static str, Judged);
 
 /// Each statement's row, in the order of reports.
-pub const TABLE: [Row; 94] = [
+pub const TABLE: [Row; 96] = [
     (W01, "W01", Both, "MQTT-2.1.3-1", "MQTT-2.1.3-1", Always),
     (W02, "W02", Both, "sec-2.1.2", "sec-2.1.2", Always),
     (W03, "W03", Both, "MQTT-1.5.5-1", "MQTT-1.5.5-1", Always),
@@ -143,6 +143,8 @@ pub const TABLE: [Row; 94] = [
     (B03, "B03", OnlyServer, "", "MQTT-3.8.4-6", Always),
     (B04, "B04", OnlyServer, "", "sec-3.11.3", Always),
     (B05, "B05", OnlyServer, "", "sec-3.9.3", OnRequest),
+    (B06, "B06", OnlyServer, "", "MQTT-3.10.4-1", OnRequest),
+    (B07, "B07", OnlyServer, "", "sec-3.11.3", OnRequest),
     (F01, "F01", OnlyClient, "MQTT-3.2.2-14", "", OnRequest),
     (F02, "F02", OnlyClient, "sec-3.2.2.3.11", "", OnRequest),
     (F03, "F03", OnlyClient, "sec-3.2.2.3.12", "", OnRequest),
@@ -207,7 +209,7 @@ pub const TABLE: [Row; 94] = [
 ];
 
 /// The statements, in the order of reports.
-const RULES: [Rule; 94] = [
+const RULES: [Rule; 96] = [
     Rule::W01,
     Rule::W02,
     Rule::W03,
@@ -283,6 +285,8 @@ const RULES: [Rule; 94] = [
     Rule::B03,
     Rule::B04,
     Rule::B05,
+    Rule::B06,
+    Rule::B07,
     Rule::F01,
     Rule::F02,
     Rule::F03,

@@ -10,7 +10,7 @@ use Rattle.mq_rules.specs.Moments.{Moment, newest, note, earliest_since}
 use Rattle.mq_rules.specs.Connections.{on_open, needs_connection, IsOnConnection}
 use Rattle.mq_rules.specs.Exchanges.{Exchange, causes, answers}
 use Rattle.mq_rules.proofs.Exports.{has_item, on_open-fold}
-use Rattle.mq_subscriptions.specs.Firsts.{first_kept, first_next}
+use Rattle.mq_subscriptions.specs.Firsts.{found_first, first_kept, first_next}
 
 -- what is found earliest passes the first test
 pub found-passes : (starts ends : Moment → Bool) (ms : List Moment) (j : Moment) → earliest_since starts ends ms ≡ Some j → starts j ≡ true
@@ -43,16 +43,13 @@ none-sent (notes.Sent item) h = absurd (cc)
 none-sent (notes.Recv item) h = absurd (cc)
 
 -- causes are received, and something is kept of each
-pub kept-next : {K : Type 0} (x : Exchange) (keeps : Note → Option K) → ((n : Note) (i : ℕ) → received_fields n ≡ None → is_id i (x.cause n) ≡ false) → ((n : Note) (i : ℕ) → is_id i (x.cause n) ≡ true → (k : K) × (keeps n ≡ Some k))
+pub found-next : {K : Type 0} (x : Exchange) (keeps : Moment → Option K) → ((n : Note) (i : ℕ) → received_fields n ≡ None → is_id i (x.cause n) ≡ false) → ((m : Moment) (i : ℕ) → is_id i (x.cause (note m)) ≡ true → (k : K) × (keeps m ≡ Some k))
     → (i : ℕ) (e : Seen) (past : List Seen) → IsOnConnection e past
-    → first_kept x keeps i (e ∷ past) ≡ first_next (is_boundary e.note) (is_id i (x.cause e.note)) (is_id i (x.answer e.note)) (keeps e.note) (first_kept x keeps i past)
-kept-next {K} x keeps received there i e past on =
-    ap (option_and_then at) (on_open-fold (earliest_since (causes x i) (answers x i)) more e past (λ ms. refl) idle on)
+    → found_first x keeps i (e ∷ past) ≡ first_next (is_boundary e.note) (is_id i (x.cause e.note)) (is_id i (x.answer e.note)) (keeps (newest e past)) (found_first x keeps i past)
+found-next {K} x keeps received there i e past on =
+    ap (option_and_then keeps) (on_open-fold (earliest_since (causes x i) (answers x i)) more e past (λ ms. refl) idle on)
     ∙ part (is_id i (x.answer e.note)) (is_boundary e.note) (is_id i (x.cause e.note))
   where
-    at : Moment → Option K
-    at m = keeps (note m)
-
     old : Option Moment
     old = earliest_since (causes x i) (answers x i) (on_open past)
 
@@ -69,15 +66,20 @@ kept-next {K} x keeps received there i e past on =
         ap (λ o. option_or o (cond (is_id i (x.cause e.note)) (Some (newest e past)) None)) (never (is_id i (x.answer e.note)))
         ∙ ap (λ b. cond b (Some (newest e past)) None) (received e.note i (none-received e.note h))
 
-    put : (a : Option Moment) (s : Bool) → ((j : Moment) → a ≡ Some j → (k : K) × (at j ≡ Some k)) → option_and_then at (option_or a (cond s (Some (newest e past)) None)) ≡ option_or (option_and_then at a) (cond s (at (newest e past)) None)
+    put : (a : Option Moment) (s : Bool) → ((j : Moment) → a ≡ Some j → (k : K) × (keeps j ≡ Some k)) → option_and_then keeps (option_or a (cond s (Some (newest e past)) None)) ≡ option_or (option_and_then keeps a) (cond s (keeps (newest e past)) None)
     put None true h = refl
     put None false h = refl
-    put (Some j) s h = let kept = h j refl in kept.1 ∙ sym (ap (λ o. option_or o (cond s (at (newest e past)) None)) kept.1)
+    put (Some j) s h = let kept = h j refl in kept.1 ∙ sym (ap (λ o. option_or o (cond s (keeps (newest e past)) None)) kept.1)
 
-    has : (j : Moment) → old ≡ Some j → (k : K) × (at j ≡ Some k)
-    has j p = there (note j) i (found-passes (causes x i) (answers x i) (on_open past) j p)
+    has : (j : Moment) → old ≡ Some j → (k : K) × (keeps j ≡ Some k)
+    has j p = there j i (found-passes (causes x i) (answers x i) (on_open past) j p)
 
-    part : (b a : Bool) → (s : Bool) → option_and_then at (option_or (cond b None (cond a None old)) (cond s (Some (newest e past)) None)) ≡ option_or (cond b None (cond a None (option_and_then at old))) (cond s (at (newest e past)) None)
+    part : (b a : Bool) → (s : Bool) → option_and_then keeps (option_or (cond b None (cond a None old)) (cond s (Some (newest e past)) None)) ≡ option_or (cond b None (cond a None (option_and_then keeps old))) (cond s (keeps (newest e past)) None)
     part true a s = put None s (λ j p. absurd (cc))
     part false true s = put None s (λ j p. absurd (cc))
     part false false s = put old s has
+
+pub kept-next : {K : Type 0} (x : Exchange) (keeps : Note → Option K) → ((n : Note) (i : ℕ) → received_fields n ≡ None → is_id i (x.cause n) ≡ false) → ((n : Note) (i : ℕ) → is_id i (x.cause n) ≡ true → (k : K) × (keeps n ≡ Some k))
+    → (i : ℕ) (e : Seen) (past : List Seen) → IsOnConnection e past
+    → first_kept x keeps i (e ∷ past) ≡ first_next (is_boundary e.note) (is_id i (x.cause e.note)) (is_id i (x.answer e.note)) (keeps e.note) (first_kept x keeps i past)
+kept-next x keeps received there i e past on = found-next x (λ m. keeps (note m)) received (λ m i h. there (note m) i h) i e past on

@@ -26,7 +26,7 @@ use Rattle.mq_subscriptions.specs.Countings.{subscribes, subscribe_request, subs
 use Rattle.mq_subscriptions.specs.Concerns.{concerns_count, concerns_grants}
 use Rattle.mq_subscriptions.specs.Firsts.{first_next}
 use Rattle.mq_subscriptions.specs.Grantings.{asked_in, asks_under, grants_under, first_asked, asked_next, AreAsked, granted_as, grants_kept}
-use Rattle.mq_fates.proofs.Exports.{neither, nothing, and2_false, counted-session, session-turns_with, gains_judged}
+use Rattle.mq_fates.proofs.Exports.{neither, and2_false, counted-session, session-turns_with, gains_judged}
 use Rattle.mq_subscriptions.proofs.FirstLaws.{none-sent, kept-next}
 
 -- ---- what is kept

@@ -3,8 +3,14 @@ pub mod BareLaws
 pub mod FirstLaws
 pub mod CountLaws
 pub mod GrantLaws
+pub mod EntrySizeLaws
 pub mod GrantSizeLaws
 pub mod StandingLaws
+pub mod RequestedLaws
+pub mod AnsweredLaws
+pub mod DeletionLaws
+pub mod DeletingLaws
+pub mod DeletionSizeLaws
 pub mod DeliveryLaws
 pub mod KeepLaws
 pub mod ConcernLaws

@@ -1,8 +1,8 @@
 -- What may concern a group of watchers is all that concerns one of them.
 use Rattle.std.proofs.Common.{◌≡◌, ℕ, ◌==◌, Bool, true, false, ◌&&◌, ◌||◌, not, length, refl, ap, sym, ◌∙◌}
-use Rattle.std.specs.Prelude.{is_some}
+use Rattle.std.specs.Prelude.{is_some, Option, None, Some, option_map}
 use Rattle.mq_rules.specs.declared.role.Tested.{Tested}
-use Rattle.mq_rules.specs.declared.rule.Rule.TheVariants.{B01, B05}
+use Rattle.mq_rules.specs.declared.rule.Rule.TheVariants.{B01, B05, B06}
 use Rattle.mq_rules.specs.declared.note.Note.{Note}
 use Rattle.mq_rules.specs.declared.note.Note.TheVariants as notes
 use Rattle.mq_rules.specs.declared.note.ItemNote.TheVariants as items
@@ -15,11 +15,11 @@ use Rattle.mq_log.specs.declared.kind.Direction.TheVariants.{Sent, Recv}
 use Rattle.mq_rules.specs.declared.bare.Bare.{Bare}
 use Rattle.mq_rules.specs.declared.bare.BareFields.{BareFields}
 use Rattle.mq_rules.specs.declared.bare.BareFields.TheVariants as bares
-use Rattle.mq_rules.specs.Notes.{bare_note, bare_fields, note_of_bare}
+use Rattle.mq_rules.specs.Notes.{bare_note, bare_fields, note_of_bare, is_boundary, received_subscription, received_unsubscription, sent_grant, sent_deletion, receives_unclear}
 use Rattle.mq_rules.specs.Rules.{binds}
 use Rattle.mq_rules.proofs.Exports.{and_false}
-use Rattle.mq_subscriptions.specs.Concerns.{concerns_count, concerns_deliveries, concerns_grants}
-use Rattle.mq_subscriptions.specs.Countings.{subscribes, unsubscribes}
+use Rattle.mq_subscriptions.specs.Concerns.{concerns_count, concerns_deliveries, concerns_grants, has_request, concerns_deletions}
+use Rattle.mq_subscriptions.specs.Countings.{subscribes, unsubscribes, subscription_count, grant_count, subscribe_request, suback_reply, unsubscribe_request, unsuback_reply}
 use Rattle.mq_fates.specs.Selecting.{may_concern_subscriptions, delivers_or_grants, subscribes_or_not}
 use Rattle.mq_fates.proofs.Exports.{neither, nothing, only-none, received, sent}
 
@@ -78,15 +78,44 @@ answers-unconcerned tested bound is (notes.Recv (items.Packet p)) h = subscripti
 answers-unconcerned tested bound is (notes.Recv (items.Bad first rule at large)) h = refl
 answers-unconcerned tested bound is (notes.Recv items.Lost) h = refl
 
-pub subscriptions-unconcerned : (tested : Tested) (bound : Bool) → bound ≡ binds B01 tested → (n : Note) → may_concern_subscriptions bound n ≡ false
-    → (concerns_deliveries tested n || (concerns_count subscribes n || (concerns_count unsubscribes n || concerns_grants tested n))) ≡ false
-subscriptions-unconcerned tested bound is n h = go (concerns_deliveries tested n) (concerns_count subscribes n) (concerns_count unsubscribes n) (binds B05 tested) (answers-unconcerned tested bound is n h)
+-- neither does it concern what an UNSUBACK says, unless bytes came that may be a request
+requests-unconcerned : (n : Note) → (concerns_count subscribes n || concerns_count unsubscribes n) ≡ false → receives_unclear n ≡ false → has_request n ≡ false
+requests-unconcerned n h k =
+    let h1 = neither (concerns_count subscribes n) (concerns_count unsubscribes n) h in
+    let s1 = neither (is_boundary n) (is_some (subscribe_request n) || is_some (suback_reply n)) h1.0 in
+    let s2 = neither (is_some (subscribe_request n)) (is_some (suback_reply n)) s1.1 in
+    let u1 = neither (is_boundary n) (is_some (unsubscribe_request n) || is_some (unsuback_reply n)) h1.1 in
+    let u2 = neither (is_some (unsubscribe_request n)) (is_some (unsuback_reply n)) u1.1 in
+    ap (λ b. b || ((is_some (received_subscription n) || is_some (received_unsubscription n)) || ((is_some (sent_grant n) || is_some (sent_deletion n)) || receives_unclear n))) s1.0
+    ∙ ap (λ b. (b || is_some (received_unsubscription n)) || ((is_some (sent_grant n) || is_some (sent_deletion n)) || receives_unclear n)) (mapped subscription_count (received_subscription n) ∙ s2.0)
+    ∙ ap (λ b. b || ((is_some (sent_grant n) || is_some (sent_deletion n)) || receives_unclear n)) (mapped subscription_count (received_unsubscription n) ∙ u2.0)
+    ∙ ap (λ b. (b || is_some (sent_deletion n)) || receives_unclear n) (mapped grant_count (sent_grant n) ∙ s2.1)
+    ∙ ap (λ b. b || receives_unclear n) (mapped grant_count (sent_deletion n) ∙ u2.1)
+    ∙ k
   where
-    go : (d a u b : Bool) → (d || (a || u)) ≡ false → (d || (a || (u || (b && a)))) ≡ false
-    go true a u b h = absurd (cc)
-    go false true u b h = absurd (cc)
-    go false false true b h = absurd (cc)
-    go false false false b h = and_false b
+    mapped : {A B : Type 0} (h : A → B) (o : Option A) → is_some o ≡ is_some (option_map h o)
+    mapped h None = refl
+    mapped h (Some a) = refl
+
+pub subscriptions-unconcerned : (tested : Tested) (bound deleting : Bool) → bound ≡ binds B01 tested → deleting ≡ binds B06 tested → (n : Note) → (may_concern_subscriptions bound n || (deleting && receives_unclear n)) ≡ false
+    → (concerns_deliveries tested n || (concerns_count subscribes n || (concerns_count unsubscribes n || (concerns_grants tested n || concerns_deletions tested n)))) ≡ false
+subscriptions-unconcerned tested bound deleting is also n h =
+    let parts = neither (may_concern_subscriptions bound n) (deleting && receives_unclear n) h in
+    let answers = answers-unconcerned tested bound is n parts.0 in
+    go (concerns_deliveries tested n) (concerns_count subscribes n) (concerns_count unsubscribes n) (binds B05 tested) (binds B06 tested) (has_request n) answers
+    (λ judged. requests-unconcerned n (neither (concerns_deliveries tested n) (concerns_count subscribes n || concerns_count unsubscribes n) answers).1 (sym (ap (λ b. b && receives_unclear n) (also ∙ judged)) ∙ parts.1))
+  where
+    last : (b c r : Bool) → (c ≡ true → r ≡ false) → ((b && false) || (c && r)) ≡ false
+    last true true r k = k refl
+    last true false r k = refl
+    last false true r k = k refl
+    last false false r k = refl
+
+    go : (d a u b c r : Bool) → (d || (a || u)) ≡ false → (c ≡ true → r ≡ false) → (d || (a || (u || ((b && a) || (c && r))))) ≡ false
+    go true a u b c r h k = absurd (cc)
+    go false true u b c r h k = absurd (cc)
+    go false false true b c r h k = absurd (cc)
+    go false false false b c r h k = last b c r k
 
 -- ---- a bare packet is no SUBSCRIBE or UNSUBSCRIBE, and answers none
 
@@ -115,3 +144,14 @@ asking-unconcerned b = (neither (concerns_count subscribes (note_of_bare b)) (co
 
 pub grants-unconcerned : (tested : Tested) (b : Bare) → concerns_grants tested (note_of_bare b) ≡ false
 grants-unconcerned tested b = ap (λ t. binds B05 tested && t) (asking-unconcerned b) ∙ and_false (binds B05 tested)
+
+clear-note : (direction : Direction) (size : ℕ) (fields : BareFields) → receives_unclear (bare_note direction size (bare_fields direction fields)) ≡ false
+clear-note Sent size fields = refl
+clear-note Recv size fields = refl
+
+clear : (b : Bare) → receives_unclear (note_of_bare b) ≡ false
+unfolding note_of_bare
+clear b = clear-note b.direction b.size b.fields
+
+pub deletions-unconcerned : (tested : Tested) (b : Bare) → concerns_deletions tested (note_of_bare b) ≡ false
+deletions-unconcerned tested b = ap (λ t. binds B06 tested && t) (requests-unconcerned (note_of_bare b) (counts-unconcerned b) (clear b)) ∙ and_false (binds B06 tested)

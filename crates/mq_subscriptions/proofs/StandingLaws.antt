@@ -157,7 +157,7 @@ among-number m [] h = absurd h
 among-number m (e ∷ past) (inl is) = let same : number m ≡ begun (e ∷ past) = ap number is in omega arith
 among-number m (e ∷ past) (inr h) = let le = among-number m past h in let least = begun-least e past in omega arith
 
-some-alike : (p q : Moment → Bool) (ms : List Moment) → ((j : Moment) → Among j ms → p j ≡ q j) → some p ms ≡ some q ms
+pub some-alike : (p q : Moment → Bool) (ms : List Moment) → ((j : Moment) → Among j ms → p j ≡ q j) → some p ms ≡ some q ms
 some-alike p q [] h = refl
 some-alike p q (m ∷ ms) h = ap (λ b. b || some p ms) (h m (inl refl)) ∙ ap (λ b. q m || b) (some-alike p q ms (λ j a. h j (inr a)))
 
@@ -180,7 +180,7 @@ some-grants : (t : Standing → Bool) (g : Option Grant) (w : Moment → Option 
 some-grants t None w ms = some-none ms
 some-grants t (Some a) w ms = refl
 
-total-alike : (p q : Moment → ℕ) (ms : List Moment) → ((j : Moment) → Among j ms → p j ≡ q j) → total p ms ≡ total q ms
+pub total-alike : (p q : Moment → ℕ) (ms : List Moment) → ((j : Moment) → Among j ms → p j ≡ q j) → total p ms ≡ total q ms
 total-alike p q [] h = refl
 total-alike p q (m ∷ ms) h = let first = h m (inl refl) in let rest = total-alike p q ms (λ j a. h j (inr a)) in omega (arith, first, rest)
 
@@ -189,7 +189,7 @@ total-none [] = refl
 total-none (m ∷ ms) = let rest = total-none ms in omega (arith, rest)
 
 -- a number that no RELEASE has, over the session with one event more
-session-total : (tested : Tested) (f : Fate) (p : Moment → ℕ) (e : Seen) (past : List Seen) → (is_release e.note ≡ true → p (newest e past) ≡ 0)
+pub session-total : (tested : Tested) (f : Fate) (p : Moment → ℕ) (e : Seen) (past : List Seen) → (is_release e.note ≡ true → p (newest e past) ≡ 0)
     → total p (session tested.role (Some f) (e ∷ past)) ≡ cond (accepts f) (p (newest e past)) 0 + cond (goes_on f e.note) (total p (session tested.role (fate_before tested f e past) past)) 0
 session-total tested f p e past idle =
     first (has_session tested.role (Some f) e past) (is_open e.note) (begins (Some f))
@@ -211,7 +211,7 @@ session-total tested f p e past idle =
     first false false n = omega arith
 
 -- a test that no RELEASE passes, over the session with one event more
-session-some : (tested : Tested) (f : Fate) (p : Moment → Bool) (e : Seen) (past : List Seen) → (is_release e.note ≡ true → p (newest e past) ≡ false)
+pub session-some : (tested : Tested) (f : Fate) (p : Moment → Bool) (e : Seen) (past : List Seen) → (is_release e.note ≡ true → p (newest e past) ≡ false)
     → some p (session tested.role (Some f) (e ∷ past)) ≡ ((accepts f && p (newest e past)) || (goes_on f e.note && some p (session tested.role (fate_before tested f e past) past)))
 session-some tested f p e past idle =
     first (has_session tested.role (Some f) e past) (is_open e.note) (begins (Some f))
@@ -243,7 +243,7 @@ boundary-none _ h = absurd (cc)
 
 -- ---- the connection that is open
 
-boundary-parts : (n : Note) → is_boundary n ≡ false → (is_open n ≡ false) × (is_close n ≡ false)
+pub boundary-parts : (n : Note) → is_boundary n ≡ false → (is_open n ≡ false) × (is_close n ≡ false)
 boundary-parts n h = go (is_open n) (is_close n) h
   where
     go : (o c : Bool) → (o || c) ≡ false → (o ≡ false) × (c ≡ false)

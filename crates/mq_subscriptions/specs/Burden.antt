@@ -1,18 +1,23 @@
 -- How much a log gives the watchers of subscriptions to keep. Where an item is about a session, the latest connection of the log is taken to have a fate.
-use Rattle.std.specs.Prelude.{ℕ, zero, suc, List, [], ◌∷◌, ◌++◌, length, Option, is_some}
+use Rattle.std.specs.Prelude.{ℕ, zero, suc, ◌+◌, cond, List, [], ◌∷◌, ◌++◌, length, Option, Some, None, is_some, Bool}
 use Rattle.std.specs.Set.{distinct_count}
 use Rattle.std.specs.Str.{bytes_eq}
 use Rattle.mq_rules.specs.declared.role.Role.{Role}
+use Rattle.mq_rules.specs.declared.role.Tested.{Tested}
 use Rattle.mq_rules.specs.declared.fate.Fate.{Fate}
+use Rattle.mq_rules.specs.declared.rule.Rule.TheVariants.{B06}
 use Rattle.mq_rules.specs.declared.note.Seen.{Seen}
-use Rattle.mq_rules.specs.Notes.{received_subscription}
-use Rattle.mq_rules.specs.Moments.{Moment, note, since}
+use Rattle.mq_rules.specs.declared.text.NotedFilter.{NotedFilter}
+use Rattle.mq_rules.specs.Words.{is_some_and}
+use Rattle.mq_rules.specs.Notes.{Subscription, received_subscription, received_unsubscription}
+use Rattle.mq_rules.specs.Moments.{Moment, note, since, is_unended}
 use Rattle.mq_rules.specs.IdentifierCounts.{ids_where}
 use Rattle.mq_rules.specs.Connections.{connection, on_open, session}
-use Rattle.mq_rules.specs.Exchanges.{Exchange, causes, answers}
+use Rattle.mq_rules.specs.Exchanges.{Exchange, causes, answers, unsubscribe_unsuback}
 use Rattle.mq_rules.specs.Subscriptions.{Standing, last_set}
+use Rattle.mq_rules.specs.Rules.{binds}
 use Rattle.mq_subscriptions.specs.Standings.{codes_in, standing_by, waiting_from, weighed}
-use Rattle.mq_fates.specs.Holding.{total}
+use Rattle.mq_fates.specs.Holding.{total, number_in}
 
 -- ---- what is received (MQTT 5.0, sections 3.8.4, 3.10.4 and 4.3)
 
@@ -46,3 +51,34 @@ asked_filters log = total (λ j. weighed (λ w. at_least_one (length w.filters))
 -- how many Topic Aliases have a topic that was sent on the open connection: no more than `aliases_sent`, which counts the first PUBLISH that sets each
 unfoldable pub aliased_ids : List Seen → ℕ
 aliased_ids log = ids_where (λ alias. is_some (last_set alias (on_open log)))
+
+-- ---- requests (MQTT 5.0, sections 3.8 to 3.11): kept if B06 and B07 are judged
+
+-- the filters of a request; of the SUBSCRIBEs and UNSUBSCRIBEs among these moments
+abbrev pub names_of : List NotedFilter → List (List ℕ)
+names_of [] = []
+names_of (g ∷ gs) = g.filter ∷ names_of gs
+
+abbrev pub names_in : Option Subscription → List (List ℕ)
+names_in None = []
+names_in (Some s) = names_of s.filters
+
+abbrev pub requested_filters : List Moment → List (List ℕ)
+requested_filters [] = []
+requested_filters (j ∷ js) = (names_in (received_subscription (note j)) ++ names_in (received_unsubscription (note j))) ++ requested_filters js
+
+-- how many different filters the SUBSCRIBEs and UNSUBSCRIBEs of the session have
+unfoldable pub requested_count : Role → Option Fate → List Seen → ℕ
+requested_count role taken log = distinct_count bytes_eq (requested_filters (session role taken log))
+
+-- no answer to this cause came after it on the open connection
+abbrev pub is_unanswered : Exchange → List Seen → Moment → Bool
+is_unanswered x log j = is_some_and (λ i. is_unended j (answers x i) (on_open log)) (x.cause (note j))
+
+-- how many filters the UNSUBSCRIBEs have, counted with repeats, that were received on the open connection without an UNSUBACK after it there; each has at least one
+unfoldable pub removed_filters : List Seen → ℕ
+removed_filters log = total (λ j. cond (is_unanswered unsubscribe_unsuback log j) (number_in (λ s. at_least_one (length s.filters)) (received_unsubscription (note j))) 0) (connection log)
+
+-- what is kept of requests
+abbrev pub deletions_burden : Tested → Option Fate → List Seen → ℕ
+deletions_burden tested taken log = cond (binds B06 tested) (requested_count tested.role taken log + asked_filters log + removed_filters log) 0

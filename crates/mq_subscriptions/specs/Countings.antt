@@ -1,14 +1,14 @@
 -- What the books of SUBACKs and UNSUBACKs keep: how many filters the first packet of an identifier has that isn't answered.
 use Rattle.std.specs.Prelude.{ℕ, ◌≡◌, ◌==◌, Bool, not, List, length, Option, Some, None, option_map, is_some, refl}
 use Rattle.std.specs.Option.{option_and_then}
-use Rattle.std.proofs.Common.{ap, ◌∙◌}
+use Rattle.std.proofs.Common.{ap}
 use Rattle.mq_rules.specs.declared.fate.Fate.{Fate}
 use Rattle.mq_rules.specs.declared.note.Note.{Note}
 use Rattle.mq_rules.specs.declared.note.Seen.{Seen}
 use Rattle.mq_rules.specs.declared.packet_note.PacketFields.{PacketFields}
 use Rattle.mq_rules.specs.declared.packet_note.PacketFields.TheVariants.{Subscribe, Suback, Unsubscribe, Unsuback}
 use Rattle.mq_rules.specs.Words.{is_some_and, is_id}
-use Rattle.mq_rules.specs.Notes.{Subscription, Grant, Number, received_fields, sent_fields, subscribe_in, suback_in, unsubscribe_in, unsuback_in, subscription_in, grant_in, unsubscription_in, unsuback_count_in, received_subscription, sent_grant, received_unsubscription, sent_unsuback}
+use Rattle.mq_rules.specs.Notes.{Subscription, Grant, received_fields, sent_fields, subscribe_in, suback_in, unsubscribe_in, unsuback_in, subscription_in, grant_in, unsubscription_in, deletion_in, received_subscription, sent_grant, received_unsubscription, sent_deletion}
 use Rattle.mq_rules.specs.Moments.{Moment, note}
 use Rattle.mq_rules.specs.Exchanges.{Exchange, first_unanswered, subscribe_suback, unsubscribe_unsuback}
 use Rattle.mq_rules.specs.Subscriptions.{applies_B03, applies_B04, breaks_B03, breaks_B04}
@@ -77,9 +77,6 @@ subscription_count s = record { identifier = s.identifier; count = length s.filt
 abbrev pub grant_count : Grant → Counted
 grant_count a = record { identifier = a.identifier; count = length a.codes }
 
-abbrev number_count : Number → Counted
-number_count u = record { identifier = u.identifier; count = u.count }
-
 abbrev pub subscribe_request : Note → Option Counted
 subscribe_request n = option_map subscription_count (received_subscription n)
 
@@ -87,10 +84,10 @@ abbrev pub suback_reply : Note → Option Counted
 suback_reply n = option_map grant_count (sent_grant n)
 
 abbrev pub unsubscribe_request : Note → Option Counted
-unsubscribe_request n = option_map number_count (received_unsubscription n)
+unsubscribe_request n = option_map subscription_count (received_unsubscription n)
 
 abbrev pub unsuback_reply : Note → Option Counted
-unsuback_reply n = option_map number_count (sent_unsuback n)
+unsuback_reply n = option_map grant_count (sent_deletion n)
 
 abbrev pub subscribes : Counting
 subscribes = record { exchange = subscribe_suback; request = subscribe_request; reply = suback_reply }
@@ -110,12 +107,12 @@ suback-names None i = refl
 suback-names (Some (Suback identifier codes)) i = refl
 suback-names (Some _) i = refl
 
-unsubscribe-names : (o : Option PacketFields) (i : ℕ) → is_id i (option_and_then unsubscribe_in o) ≡ names i (option_map number_count (option_and_then unsubscription_in o))
+unsubscribe-names : (o : Option PacketFields) (i : ℕ) → is_id i (option_and_then unsubscribe_in o) ≡ names i (option_map subscription_count (option_and_then unsubscription_in o))
 unsubscribe-names None i = refl
 unsubscribe-names (Some (Unsubscribe identifier filters)) i = refl
 unsubscribe-names (Some _) i = refl
 
-unsuback-names : (o : Option PacketFields) (i : ℕ) → is_id i (option_and_then unsuback_in o) ≡ names i (option_map number_count (option_and_then unsuback_count_in o))
+unsuback-names : (o : Option PacketFields) (i : ℕ) → is_id i (option_and_then unsuback_in o) ≡ names i (option_map grant_count (option_and_then deletion_in o))
 unsuback-names None i = refl
 unsuback-names (Some (Unsuback identifier codes)) i = refl
 unsuback-names (Some _) i = refl
@@ -140,19 +137,19 @@ B03-says k = mapped grant_count
 
 B04-says : (k : Moment) → breaks_B04 k ≡ miscounts unsubscribes k
 unfolding breaks_B04
-B04-says k = mapped number_count
-    (λ a. is_some_and (λ j. is_some_and (λ u. not (u.count == a.count)) (received_unsubscription (note j))) (first_unanswered unsubscribe_unsuback a.identifier k))
+B04-says k = mapped grant_count
+    (λ a. is_some_and (λ j. is_some_and (λ u. not (length u.filters == length a.codes)) (received_unsubscription (note j))) (first_unanswered unsubscribe_unsuback a.identifier k))
     (λ r. is_some_and (λ j. is_some_and (λ q. not (q.count == r.count)) (unsubscribe_request (note j))) (first_unanswered unsubscribe_unsuback r.identifier k))
-    (sent_unsuback (note k))
-    (λ a. each (λ j. is_some_and (λ u. not (u.count == a.count)) (received_unsubscription (note j))) (λ j. is_some_and (λ q. not (q.count == a.count)) (unsubscribe_request (note j)))
+    (sent_deletion (note k))
+    (λ a. each (λ j. is_some_and (λ u. not (length u.filters == length a.codes)) (received_unsubscription (note j))) (λ j. is_some_and (λ q. not (q.count == length a.codes)) (unsubscribe_request (note j)))
     (first_unanswered unsubscribe_unsuback a.identifier k)
-    (λ j. mapped number_count (λ u. not (u.count == a.count)) (λ q. not (q.count == a.count)) (received_unsubscription (note j)) (λ u. refl)))
+    (λ j. mapped subscription_count (λ u. not (length u.filters == length a.codes)) (λ q. not (q.count == length a.codes)) (received_unsubscription (note j)) (λ u. refl)))
 
 pub subscribes_so : IsCounting subscribes breaks_B03
 subscribes_so = record { is_received = λ n h. ap (λ o. option_map subscription_count (option_and_then subscription_in o)) h; is_sent = λ n h. ap (λ o. option_map grant_count (option_and_then grant_in o)) h; causes_are = λ n i. subscribe-names (received_fields n) i; answers_are = λ n i. suback-names (sent_fields n) i; breaks_are = B03-says }
 
 pub unsubscribes_so : IsCounting unsubscribes breaks_B04
-unsubscribes_so = record { is_received = λ n h. ap (λ o. option_map number_count (option_and_then unsubscription_in o)) h; is_sent = λ n h. ap (λ o. option_map number_count (option_and_then unsuback_count_in o)) h; causes_are = λ n i. unsubscribe-names (received_fields n) i; answers_are = λ n i. unsuback-names (sent_fields n) i; breaks_are = B04-says }
+unsubscribes_so = record { is_received = λ n h. ap (λ o. option_map subscription_count (option_and_then unsubscription_in o)) h; is_sent = λ n h. ap (λ o. option_map grant_count (option_and_then deletion_in o)) h; causes_are = λ n i. unsubscribe-names (received_fields n) i; answers_are = λ n i. unsuback-names (sent_fields n) i; breaks_are = B04-says }
 
 pub B03_asks : (k : Moment) → applies_B03 k ≡ answers_one subscribes k
 unfolding applies_B03
@@ -160,4 +157,4 @@ B03_asks k = mapped grant_count (λ a. is_some (first_unanswered subscribe_subac
 
 pub B04_asks : (k : Moment) → applies_B04 k ≡ answers_one unsubscribes k
 unfolding applies_B04
-B04_asks k = mapped number_count (λ a. is_some (first_unanswered unsubscribe_unsuback a.identifier k)) (λ r. is_some (first_unanswered unsubscribe_unsuback r.identifier k)) (sent_unsuback (note k)) (λ a. refl)
+B04_asks k = mapped grant_count (λ a. is_some (first_unanswered unsubscribe_unsuback a.identifier k)) (λ r. is_some (first_unanswered unsubscribe_unsuback r.identifier k)) (sent_deletion (note k)) (λ a. refl)

@@ -2,7 +2,7 @@
 use Rattle.std.specs.Prelude.{◌≡◌, Bool, true, false, ◌&&◌, ◌||◌, not, refl}
 use Rattle.mq_rules.specs.declared.rule.Rule.{Rule}
 use Rattle.mq_rules.specs.declared.role.Role.{Role}
-use Rattle.mq_rules.specs.declared.rule.Rule.TheVariants.{W01, B01, B02, B03, B04, B05}
+use Rattle.mq_rules.specs.declared.rule.Rule.TheVariants.{W01, B01, B02, B03, B04, B05, B06, B07}
 use Rattle.mq_rules.specs.Rules.{same_rule}
 use Rattle.mq_rules.specs.Occasions.{occasion}
 use Rattle.mq_fates.specs.Placings.{is_on_sessions, implied}
@@ -10,7 +10,7 @@ use Rattle.mq_fates.specs.Placings.{is_on_sessions, implied}
 -- ---- subscriptions, as they are watched
 
 abbrev pub of_subscriptions : Rule → Bool
-of_subscriptions r = (same_rule r B01 || same_rule r B02) || (same_rule r B03 || (same_rule r B04 || same_rule r B05))
+of_subscriptions r = (same_rule r B01 || same_rule r B02) || (same_rule r B03 || (same_rule r B04 || (same_rule r B05 || (same_rule r B06 || same_rule r B07))))
 
 -- ---- where they are put to the test
 

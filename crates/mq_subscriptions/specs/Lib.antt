@@ -2,6 +2,7 @@ pub mod Firsts
 pub mod Countings
 pub mod Grantings
 pub mod Standings
+pub mod Deletings
 pub mod Grouping
 pub mod Concerns
 pub mod Burden

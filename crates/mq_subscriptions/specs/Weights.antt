@@ -4,9 +4,11 @@ use Rattle.std.specs.List.{sum_by}
 use Rattle.indexmap.specs.IndexMap.{index_map_len}
 use Rattle.mq_rules.specs.KeptOrder.{ids_kept}
 use Rattle.mq_subscriptions.specs.declared.counts.Counts.{Counts}
+use Rattle.mq_subscriptions.specs.declared.deletions.Deletions.{Deletions}
 use Rattle.mq_subscriptions.specs.declared.grants.Grants.{Grants}
 use Rattle.mq_subscriptions.specs.declared.subs.Deliveries.{Deliveries}
 use Rattle.mq_subscriptions.specs.Burden.{at_least_one}
+use Rattle.mq_subscriptions.specs.Deletings.{removes_weigh}
 use Rattle.mq_subscriptions.specs.Standings.{SessionFilters, waits_weight}
 
 -- the identifiers of packets without their answer
@@ -24,3 +26,7 @@ filters_weigh f = length f.settled + f.found + sum_by waits_weight f.waiting
 -- deliveries: the filters, and the topics by their Topic Alias
 abbrev pub deliveries_weigh : Deliveries → ℕ
 deliveries_weigh s = filters_weigh s.filters + index_map_len s.topics
+
+-- requests: the filters that they have, the SUBSCRIBEs without their answer, each with its filters, and such UNSUBSCRIBEs, each with its filters and what is kept of these
+abbrev pub deletions_weigh : Deletions → ℕ
+deletions_weigh s = index_map_len s.states + sum_by (λ e. at_least_one (length e.1.filters)) s.waiting.entries + sum_by (λ e. removes_weigh e.1) s.removing.entries

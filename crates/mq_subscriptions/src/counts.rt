@@ -347,7 +347,7 @@ fn unsubscribe_request(note: &Note) -> Option<Counted>
             },
         ) => Some(Counted {
             identifier: *identifier,
-            count: *filters,
+            count: filters.len(),
         }),
         _ => None,
     }
@@ -360,7 +360,7 @@ fn unsuback_reply(note: &Note) -> Option<Counted>
     match note.sent_fields() {
         Some(PacketFields::Unsuback { identifier, codes }) => Some(Counted {
             identifier: *identifier,
-            count: *codes,
+            count: codes.len(),
         }),
         _ => None,
     }

@@ -155,8 +155,8 @@ fn search(
     Ok(higher(standing, waiting.ceiling_for(topic)))
 }
 
-// A copy of a text.
-fn copy_of(alloc: Global, text: &str) -> Result<String, Memory>
+/// A copy of a text; `Memory` if there is no memory for it.
+pub fn copy_of(alloc: Global, text: &str) -> Result<String, Memory>
     ensures { IfOk result (λ copy. string_bytes copy ≡ text.now) }
 {
     let mut copy = String::with_capacity(alloc, text.len())?;

@@ -119,6 +119,8 @@ fn is_in_session(rule: Rule) -> bool
             | Rule::B03
             | Rule::B04
             | Rule::B05
+            | Rule::B06
+            | Rule::B07
     )
 }
 

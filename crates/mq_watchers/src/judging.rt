@@ -35,7 +35,7 @@ pub fn watch_all<W: Watch>(
     Ok(())
 }
 
-/// Watches S01 to S07, E1A to E7R, L1 to L3 and B01 to B05 in the events of a log, the oldest
+/// Watches S01 to S07, E1A to E7R, L1 to L3 and B01 to B07 in the events of a log, the oldest
 /// first: the faults grow by exactly their failing pairs in the log.
 ///
 /// # Errors

@@ -1,5 +1,5 @@
-//! The texts of `explain` for the further statements (B05, F01 to F06, V03, V04, V06, C24, D01 to
-//! D03, D05, A01 to A03, K01 and K02), which are judged on request.
+//! The texts of `explain` for the further statements (B05 to B07, F01 to F06, V03, V04, V06, C24, D01
+//! to D03, D05, A01 to A03, K01 and K02), which are judged on request.
 
 /// The text of `explain B05`.
 pub const B05: &str = "B05 server sec-3.9.3\n\
@@ -17,6 +17,50 @@ pub const B05: &str = "B05 server sec-3.9.3\n\
     codes are in another order than the filters. Write the smaller one of that QoS\n\
     and the one that was asked for, in the order of the SUBSCRIBE.\n\n\
     See: MQTT 5.0, section 3.9.3.\n";
+
+/// The text of `explain B06`.
+pub const B06: &str = "B06 server MQTT-3.10.4-1\n\
+    No UNSUBACK says of a subscription that it doesn't exist.\n\n\
+    Why: A server has to compare the filters of an UNSUBSCRIBE with those that its\n\
+    client has, character by character, and to delete the one that is equal. If it\n\
+    doesn't find that one, it goes on serving it, and the client can't stop it.\n\n\
+    Judged: At an UNSUBACK that answers an UNSUBSCRIBE, if a Reason Code is 0x11 (No\n\
+    subscription existed) and the filter at its place was subscribed, on a\n\
+    connection that the server accepted. It was if the last SUBSCRIBE or UNSUBSCRIBE\n\
+    with this filter in the session, before this one, is a SUBSCRIBE, and the SUBACK\n\
+    that answers it granted the filter before the UNSUBSCRIBE came. A filter that\n\
+    comes twice is deleted at its first place. One that is asked for or given up\n\
+    again before the UNSUBACK isn't judged. Nothing is judged in a session after\n\
+    bytes that may be a SUBSCRIBE or an UNSUBSCRIBE, and break a rule. Decided at\n\
+    once, or at the CONNACK if that comes later. It is a further statement: it is\n\
+    judged with --all.\n\n\
+    To see it tested: Subscribe, wait for the SUBACK, and unsubscribe, also in a\n\
+    session that is resumed. An UNSUBACK that says 0x00 or 0x11 of such a filter\n\
+    tests this.\n\n\
+    In a server: The filter is looked for in another form than it is kept in, or not\n\
+    among the subscriptions of a resumed session. Look for the text that the client\n\
+    sent, delete what is equal, and write 0x00 for it.\n\n\
+    See: MQTT 5.0, sections 3.10.4 and 3.11.3.\n";
+
+/// The text of `explain B07`.
+pub const B07: &str = "B07 server sec-3.11.3\n\
+    No UNSUBACK says that a filter was deleted which was never subscribed.\n\n\
+    Why: 0x00 says that a subscription is deleted. A client that misspells a filter\n\
+    learns only by 0x11 (No subscription existed) that the right one still stands.\n\n\
+    Judged: At an UNSUBACK that answers an UNSUBSCRIBE, if a Reason Code is 0x00 and\n\
+    no SUBSCRIBE before it in the session has the filter at its place, those aside\n\
+    whose SUBACK had refused it, on a connection that the server accepted. A filter\n\
+    that was unsubscribed since counts too, and so does one of a SUBSCRIBE that has\n\
+    no answer yet, or came after the UNSUBSCRIBE. Nothing is judged in a session\n\
+    after bytes that may be a SUBSCRIBE or an UNSUBSCRIBE, and break a rule. Decided\n\
+    at once, or at the CONNACK if that comes later. It is a further statement: it is\n\
+    judged with --all.\n\n\
+    To see it tested: Unsubscribe, also from filters that the client never\n\
+    subscribed to. An UNSUBACK that says 0x00 of a filter, or 0x11 of one that was\n\
+    never subscribed, tests this.\n\n\
+    In a server: It writes 0x00 for each filter, whether something was deleted or\n\
+    not. Write 0x11 where there was no subscription.\n\n\
+    See: MQTT 5.0, section 3.11.3.\n";
 
 /// The text of `explain F01`.
 pub const F01: &str = "F01 client MQTT-3.2.2-14\n\

@@ -133,6 +133,8 @@ fn event_words(rule: Rule) -> &'static str
         Rule::L2 => ": the RELEASE before",
         Rule::L3 => ": the PUBLISH that brought it, and wasn't released",
         Rule::B05 => ": the SUBSCRIBE, which asks for less",
+        Rule::B06 => ": the UNSUBSCRIBE, for a filter that was subscribed",
+        Rule::B07 => ": the UNSUBSCRIBE, for a filter that was never subscribed",
         Rule::F01 => ": the CONNACK, with Retain Available 0",
         Rule::F02 => ": the CONNACK, with Wildcard Subscription Available 0",
         Rule::F03 => ": the CONNACK, with Subscription Identifier Available 0",

@@ -179,7 +179,7 @@ fn says_what_the_event_is_on_a_connection(rt: HostRuntime) {
 }
 
 // What is said of event 40, in a session.
-static IN_SESSIONS: [Said; 8] = [
+static IN_SESSIONS: [Said; 11] = [
     (Rule::S01, " (because of event 40: it holds the identifier)"),
     (
         Rule::S02,
@@ -202,6 +202,18 @@ static IN_SESSIONS: [Said; 8] = [
     (
         Rule::L3,
         " (because of event 40: the PUBLISH that brought it, and wasn't released)",
+    ),
+    (
+        Rule::B05,
+        " (because of event 40: the SUBSCRIBE, which asks for less)",
+    ),
+    (
+        Rule::B06,
+        " (because of event 40: the UNSUBSCRIBE, for a filter that was subscribed)",
+    ),
+    (
+        Rule::B07,
+        " (because of event 40: the UNSUBSCRIBE, for a filter that was never subscribed)",
     ),
 ];
 

@@ -22,16 +22,16 @@ fn lists_the_statements(rt: HostRuntime) -> Result<(), Fail> {
         b"W01 both MQTT-2.1.3-1 The flags of a packet other than PUBLISH are those of its type.\n";
     for (words, lines) in [
         (&["mqjudge", "rules"][..], 74),
-        (&["mqjudge", "rules", "--all"][..], 92),
+        (&["mqjudge", "rules", "--all"][..], 94),
         (&["mqjudge", "rules", "--role", "client"][..], 54),
         (&["mqjudge", "rules", "--role", "server"][..], 64),
         (&["mqjudge", "rules", "--all", "--role", "client"][..], 64),
-        (&["mqjudge", "rules", "--all", "--role", "server"][..], 75),
-        (&["mqjudge", "rules", "--times"][..], 94),
+        (&["mqjudge", "rules", "--all", "--role", "server"][..], 77),
+        (&["mqjudge", "rules", "--times"][..], 96),
         (&["mqjudge", "rules", "--times", "--role", "client"][..], 65),
         (
             &["mqjudge", "rules", "--all", "--times", "--role", "server"][..],
-            76,
+            78,
         ),
     ] {
         assert!(rt; lists(rt.alloc(), words, lines, first)?, "{words:?}");

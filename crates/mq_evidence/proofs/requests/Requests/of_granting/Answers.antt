@@ -1,8 +1,10 @@
 use Rattle.std.proofs.Common.{ap, sym, ◌∙◌}
-use Rattle.mq_evidence.proofs.RequestLaws.{by_event, place_in, of_too_much-is}
+use Rattle.mq_rules.specs.Notes.{sent_as, suback_in}
+use Rattle.mq_evidence.specs.Requests.{filters_of, first_subscribe}
+use Rattle.mq_evidence.proofs.RequestLaws.{by_event, place_in, of_answer-is}
 use Rattle.mq_evidence.proofs.requests.Requests.of_granting.Goals as goal
 
 pub returns-in-Some : goal.returns-in-Some
 returns-in-Some c = λ s kept.
-    of_too_much-is s.connection c.args.note.now c.in-Some.i c.of.result (sym c.sent_suback.ensures ∙ c.in-Some.is)
+    of_answer-is filters_of (λ i. first_subscribe i s.connection) (sent_as suback_in c.args.note.now) c.in-Some.i c.of.result (sym c.sent_suback.ensures ∙ c.in-Some.is)
     (c.of.ensures ∙ ap by_event (c.place_of.ensures ∙ ap place_in (c.get.ensures ∙ kept.subscribes_are c.in-Some.i)))
