@@ -17,6 +17,7 @@ pub mod SentAgainLaws
 pub mod MarkedLaws
 pub mod PlacesLaws
 pub mod OwingLaws
+pub mod SubscribedLaws
 pub mod DeliveryLaws
 pub mod QuietLaws
 pub mod JudgedLaws

@@ -12,8 +12,7 @@ use Rattle.mq_plain.specs.Lookback.{answer_by}
 use Rattle.std.specs.Prelude.{reverse}
 use Rattle.std.proofs.lemmas.Bool.{eqb-true, eq-eqb}
 use Rattle.std.proofs.lemmas.List.{length-reverse}
-use Rattle.std.specs.Option.{option_or}
-use Rattle.mq_rules.proofs.Exports.{same_test, connection-next, latest_fate-next}
+use Rattle.mq_rules.proofs.Exports.{same_test, connection-next}
 
 pub no_events : (events : List Seen) → length events ≡ 0 → events ≡ []
 no_events [] h = refl

@@ -9,7 +9,7 @@ use Rattle.mq_rules.specs.declared.role.Further.{Further}
 use Rattle.mq_rules.specs.declared.role.Tested.{Tested}
 use Rattle.mq_rules.specs.declared.fate.Fate.{Fate}
 use Rattle.mq_rules.specs.declared.rule.Rule.{Rule}
-use Rattle.mq_rules.specs.declared.rule.Rule.TheVariants.{S01, S02, S03, S04, S05, S06, S07, E1A, E1R, E1O, E2A, E2R, E2O, E3A, E3R, E3O, E4A, E4R, E5A, E5R, E6A, E6R, E7R, L1, L2, L3, B01, B02, B03, B04}
+use Rattle.mq_rules.specs.declared.rule.Rule.TheVariants.{S01, S02, S03, S04, S05, S06, S07, E1A, E1R, E1O, E2A, E2R, E2O, E3A, E3R, E3O, E4A, E4R, E5A, E5R, E6A, E6R, E7R, L1, L2, L3, B01, B02, B03, B04, B05, B06, B07}
 use Rattle.mq_rules.specs.declared.note.Note.{Note}
 use Rattle.mq_rules.specs.declared.note.Note.TheVariants as notes
 use Rattle.mq_rules.specs.declared.note.ItemNote.TheVariants as items
@@ -17,11 +17,12 @@ use Rattle.mq_rules.specs.declared.note.Seen.{Seen}
 use Rattle.mq_rules.specs.declared.packet_note.PacketFields.{PacketFields}
 use Rattle.mq_rules.specs.declared.packet_note.PacketFields.TheVariants.{Publish, Puback, Pubrec, Pubrel, Pubcomp, Subscribe, Suback, Unsubscribe, Unsuback}
 use Rattle.mq_rules.specs.declared.packet_note.PublishNote.{PublishNote}
+use Rattle.mq_rules.specs.declared.text.NotedFilter.{NotedFilter}
 use Rattle.mq_rules.specs.Words.{is_some_and, only}
 use Rattle.mq_rules.specs.declared.packet_note.PacketFields.TheVariants as fields
 use Rattle.mq_packet.specs.declared.packet.Qos.{Qos}
 use Rattle.mq_packet.specs.declared.packet.Qos.TheVariants as quality
-use Rattle.mq_rules.specs.Notes.{is_open, is_rest, released_id, sent_fields, received_fields, publish_in, is_acknowledged, is_at_least_once, is_exactly_once, received_once_acknowledged, received_exactly_once, received_as, accepting_pubrec_in, opener_of, is_pingreq, is_received_pingreq, is_sent_pingresp, delivery_in, opener_in, resend_in, puback_in, pubrec_in, pubrel_in, pubcomp_in, subscribe_in, suback_in, unsubscribe_in, unsuback_in, success_pubcomp_in, grant_in, unsuback_count_in}
+use Rattle.mq_rules.specs.Notes.{is_open, is_rest, released_id, sent_fields, received_fields, publish_in, is_acknowledged, is_at_least_once, is_exactly_once, received_once_acknowledged, received_exactly_once, received_as, accepting_pubrec_in, opener_of, is_pingreq, is_received_pingreq, is_sent_pingresp, delivery_in, opener_in, resend_in, puback_in, pubrec_in, pubrel_in, pubcomp_in, subscribe_in, suback_in, unsubscribe_in, unsuback_in, success_pubcomp_in, grant_in, deletion_in}
 use Rattle.mq_rules.specs.Moments.{Moment, newest, note, moment, moments, some, those, count, is_next}
 use Rattle.mq_rules.specs.Connections.{latest_fate, accepts, resumed, connection, begun, number, is_binding}
 use Rattle.mq_rules.specs.Rules.{binds, found_line, lines, line_of}
@@ -30,11 +31,12 @@ use Rattle.mq_rules.specs.Under.{is_by_session, shows_with, turns_with}
 use Rattle.mq_rules.specs.Identifiers.{taken_by, breaks_S01, breaks_S02, breaks_S03, breaks_S04, breaks_S05, breaks_S07, is_waiting, shows_S06}
 use Rattle.mq_rules.specs.Exchanges.{breaks_A, breaks_O, breaks_E7R, shows_R}
 use Rattle.mq_rules.specs.Releases.{breaks_L1, breaks_L2, breaks_L3}
-use Rattle.mq_rules.specs.Subscriptions.{breaks_B01, breaks_B02, breaks_B03, breaks_B04}
+use Rattle.mq_rules.specs.Subscriptions.{breaks_B01, breaks_B02, breaks_B03, breaks_B04, breaks_B05}
+use Rattle.mq_rules.specs.FurtherSubscriptions.{is_clear_before, is_unsubscribed_so, breaks_B06, breaks_B07}
 use Rattle.mq_rules.specs.FaultKeys.{FaultMap}
 use Rattle.mq_rules.specs.Growing.{Gains}
 use Rattle.mq_rules.proofs.Exports.{and_false, or_false, both_true, gains_nothing}
-use Rattle.mq_plain.specs.Chosen.{is_plain_se, is_plain_lb, is_plain_rule}
+use Rattle.mq_plain.specs.Chosen.{is_plain_se, is_plain_lb, is_plain_rule, is_plain_subscription}
 use Rattle.mq_plain.specs.Events.{is_client, is_spoken_of, is_quiet, is_asking, asks, some_asks, is_unacknowledged, is_idle, AreSilent}
 use Rattle.mq_plain.specs.Waiting.{AreOnSessions}
 
@@ -55,10 +57,10 @@ record IsUnspoken (role : Role) (fields : Option PacketFields) : Type 0 where
   pub unsuback : option_and_then unsuback_in fields ≡ None
   pub success : option_and_then success_pubcomp_in fields ≡ None
   pub grant : option_and_then grant_in fields ≡ None
-  pub count : option_and_then unsuback_count_in fields ≡ None
+  pub deletion : option_and_then deletion_in fields ≡ None
 
 nothing-sent : (role : Role) → IsUnspoken role None
-nothing-sent role = record { taken = refl; opener = refl; resend = refl; delivery = refl; publish = λ server. refl; puback = refl; pubrec = refl; pubrel = refl; pubcomp = refl; suback = refl; unsuback = refl; success = refl; grant = refl; count = refl }
+nothing-sent role = record { taken = refl; opener = refl; resend = refl; delivery = refl; publish = λ server. refl; puback = refl; pubrec = refl; pubrel = refl; pubcomp = refl; suback = refl; unsuback = refl; success = refl; grant = refl; deletion = refl }
 
 only-none : (b : Bool) → ◌≡◌ {A = Option ℕ} (only b None) None
 only-none true = refl
@@ -83,7 +85,7 @@ unacknowledged p h =
       unsuback = refl;
       success = refl;
       grant = refl;
-      count = refl;
+      deletion = refl;
     }
 
 not-true : (b : Bool) → not b ≡ true → b ≡ false
@@ -105,7 +107,7 @@ unspoken role (Subscribe identifier filters wishes) h = absurd (cc)
 unspoken role (Suback identifier codes) h = absurd (cc)
 unspoken role (Unsubscribe identifier filters) h = absurd (cc)
 unspoken role (Unsuback identifier codes) h = absurd (cc)
-unspoken role _ h = record { taken = refl; opener = refl; resend = refl; delivery = refl; publish = λ server. refl; puback = refl; pubrec = refl; pubrel = refl; pubcomp = refl; suback = refl; unsuback = refl; success = refl; grant = refl; count = refl }
+unspoken role _ h = record { taken = refl; opener = refl; resend = refl; delivery = refl; publish = λ server. refl; puback = refl; pubrec = refl; pubrel = refl; pubcomp = refl; suback = refl; unsuback = refl; success = refl; grant = refl; deletion = refl }
 
 quiet-sent : (role : Role) (n : Note) → is_quiet role n ≡ true → IsUnspoken role (sent_fields n)
 quiet-sent role (notes.Sent (items.Packet p)) h = unspoken role p.fields (not-true (is_spoken_of role p.fields) h)
@@ -246,9 +248,17 @@ unfolding found_line lines line_of
 only-servers-B02 Client releases further h = absurd (cc)
 only-servers-B02 Server releases further h = refl
 
-never : (role : Role) (releases : Bool) (further : Further) (rule : Rule) (e : Seen) (past : List Seen) → is_plain_rule rule ≡ true → IsIdle role e past
+-- what doesn't answer an UNSUBSCRIBE says nothing of subscriptions
+undeleted : (role : Role) (f : Fate) (e : Seen) (past : List Seen) (test : Moment → List NotedFilter → List ℕ → Bool) → option_and_then deletion_in (sent_fields e.note) ≡ None → is_unsubscribed_so role f (newest e past) test ≡ false
+undeleted role f e past test none = ap (λ b. is_clear_before role f (newest e past) && b) (none-passes _ _ none) ∙ and_false (is_clear_before role f (newest e past))
+
+-- the statements on sessions
+abbrev is_plain_session : Rule → Bool
+is_plain_session rule = is_plain_rule rule || is_plain_subscription rule
+
+never : (role : Role) (releases : Bool) (further : Further) (rule : Rule) (e : Seen) (past : List Seen) → is_plain_session rule ≡ true → IsIdle role e past
     → IsNever (binds rule (record { role = role; releases = releases; further = further })) (statement role rule) (newest e past)
-unfolding breaks_S01 breaks_S02 breaks_S03 breaks_S04 breaks_S05 breaks_S07 breaks_A breaks_O breaks_L1 breaks_L2 breaks_L3 breaks_B01 breaks_B02 breaks_B03 breaks_B04 shows_R shows_S06
+unfolding breaks_S01 breaks_S02 breaks_S03 breaks_S04 breaks_S05 breaks_S07 breaks_A breaks_O breaks_L1 breaks_L2 breaks_L3 breaks_B01 breaks_B02 breaks_B03 breaks_B04 breaks_B05 breaks_B06 breaks_B07 shows_R shows_S06
 never role releases further S01 e past chosen idle = λ bound f. and-first _ _ (none-passes _ _ (untaken role e.note idle.unspoken))
 never role releases further S02 e past chosen idle = λ bound f. and-first _ _ (none-passes _ _ idle.unspoken.resend)
 never role releases further S03 e past chosen idle = λ bound f. none-passes _ _ idle.unspoken.resend
@@ -280,7 +290,10 @@ never role releases further L3 e past chosen idle = λ bound f. none-passes _ _ 
 never role releases further B01 e past chosen idle = λ bound f. none-passes _ _ (idle.unspoken.publish (only-servers-B01 role releases further bound))
 never role releases further B02 e past chosen idle = λ bound f. none-passes _ _ (idle.unspoken.publish (only-servers-B02 role releases further bound))
 never role releases further B03 e past chosen idle = λ bound f. none-passes _ _ idle.unspoken.grant
-never role releases further B04 e past chosen idle = λ bound f. none-passes _ _ idle.unspoken.count
+never role releases further B04 e past chosen idle = λ bound f. none-passes _ _ idle.unspoken.deletion
+never role releases further B05 e past chosen idle = λ bound f. none-passes _ _ idle.unspoken.grant
+never role releases further B06 e past chosen idle = λ bound f. undeleted role f e past _ idle.unspoken.deletion
+never role releases further B07 e past chosen idle = λ bound f. undeleted role f e past _ idle.unspoken.deletion
 never role releases further _ e past chosen idle = absurd (cc)
 
 -- ---- with a quiet event
@@ -334,7 +347,7 @@ quiet-idle role e past quiet = record {
   unpinged = and-first _ _ (unbinding role e past (quiet-rest role e.note quiet));
 }
 
-silent : (tested : Tested) (f : Fate) (e : Seen) (past : List Seen) (k : ℕ) (rule : Rule) → is_plain_rule rule ≡ true → is_quiet tested.role e.note ≡ true → turns_with tested f e past k rule ≡ false
+silent : (tested : Tested) (f : Fate) (e : Seen) (past : List Seen) (k : ℕ) (rule : Rule) → is_plain_session rule ≡ true → is_quiet tested.role e.note ≡ true → turns_with tested f e past k rule ≡ false
 silent tested f e past k rule chosen quiet =
     never-turns tested rule (statement tested.role rule) f e past k refl (inl (unbinding tested.role e past (quiet-rest tested.role e.note quiet)))
     (never tested.role tested.releases tested.further rule e past chosen (quiet-idle tested.role e past quiet))
@@ -370,7 +383,7 @@ resting-release : (n : Note) → is_rest n ≡ true → released_id n ≡ None
 resting-release notes.Rest h = refl
 resting-release _ h = absurd (cc)
 
-resting : (tested : Tested) (f : Fate) (e : Seen) (past : List Seen) (k : ℕ) (rule : Rule) → is_plain_rule rule ≡ true → is_rest e.note ≡ true → some_asks past ≡ false → turns_with tested f e past k rule ≡ false
+resting : (tested : Tested) (f : Fate) (e : Seen) (past : List Seen) (k : ℕ) (rule : Rule) → is_plain_session rule ≡ true → is_rest e.note ≡ true → some_asks past ≡ false → turns_with tested f e past k rule ≡ false
 resting tested f e past k rule chosen rest unasked =
     never-turns tested rule (statement tested.role rule) f e past k refl (inr unasked)
     (never tested.role tested.releases tested.further rule e past chosen
@@ -384,42 +397,64 @@ other-of : (a b : Bool) → b ≡ true → (a || b) ≡ true
 other-of true b h = refl
 other-of false b h = h
 
-pub silent_plain : AreSilent is_plain_rule
-silent_plain = record { quiet = λ tested f e past k rule chosen. silent tested f e past k rule chosen; resting = λ tested f e past k rule chosen. resting tested f e past k rule chosen }
-
-pub silent_se : AreSilent is_plain_se
-silent_se = record {
-  quiet = λ tested f e past k rule chosen. silent tested f e past k rule (one-of (is_plain_se rule) (is_plain_lb rule) chosen);
-  resting = λ tested f e past k rule chosen. resting tested f e past k rule (one-of (is_plain_se rule) (is_plain_lb rule) chosen);
+-- all of these statements are silent, and on sessions
+part-silent : (chosen : Rule → Bool) → ((rule : Rule) → chosen rule ≡ true → is_plain_session rule ≡ true) → AreSilent chosen
+part-silent chosen part = record {
+  quiet = λ tested f e past k rule is. silent tested f e past k rule (part rule is);
+  resting = λ tested f e past k rule is. resting tested f e past k rule (part rule is);
 }
 
-pub silent_lb : AreSilent is_plain_lb
-silent_lb = record {
-  quiet = λ tested f e past k rule chosen. silent tested f e past k rule (other-of (is_plain_se rule) (is_plain_lb rule) chosen);
-  resting = λ tested f e past k rule chosen. resting tested f e past k rule (other-of (is_plain_se rule) (is_plain_lb rule) chosen);
-}
-
--- they are all on sessions
-none-apart : (role : Role) (rule : Rule) → (is_plain_rule rule && not (is_by_session (statement role rule))) ≡ false
+none-apart : (role : Role) (rule : Rule) → (is_plain_session rule && not (is_by_session (statement role rule))) ≡ false
 none-apart role S01 = refl
 none-apart role _ = refl
 
-sessions-of : (role : Role) (rule : Rule) → is_plain_rule rule ≡ true → is_by_session (statement role rule) ≡ true
-sessions-of role rule chosen = go (is_plain_rule rule) (is_by_session (statement role rule)) (none-apart role rule) chosen
+sessions-of : (role : Role) (rule : Rule) → is_plain_session rule ≡ true → is_by_session (statement role rule) ≡ true
+sessions-of role rule chosen = go (is_plain_session rule) (is_by_session (statement role rule)) (none-apart role rule) chosen
   where
     go : (a b : Bool) → (a && not b) ≡ false → a ≡ true → b ≡ true
     go true true h t = refl
     go true false h t = absurd (cc)
     go false b h t = absurd (cc)
 
+part-sessions : (chosen : Rule → Bool) → ((rule : Rule) → chosen rule ≡ true → is_plain_session rule ≡ true) → AreOnSessions chosen
+part-sessions chosen part = record { each = λ tested rule is. sessions-of tested.role rule (part rule is) }
+
+-- their parts
+plain-part : (rule : Rule) → is_plain_rule rule ≡ true → is_plain_session rule ≡ true
+plain-part rule is = one-of (is_plain_rule rule) (is_plain_subscription rule) is
+
+se-part : (rule : Rule) → is_plain_se rule ≡ true → is_plain_session rule ≡ true
+se-part rule is = plain-part rule (one-of (is_plain_se rule) (is_plain_lb rule) is)
+
+lb-part : (rule : Rule) → is_plain_lb rule ≡ true → is_plain_session rule ≡ true
+lb-part rule is = plain-part rule (other-of (is_plain_se rule) (is_plain_lb rule) is)
+
+subscription-part : (rule : Rule) → is_plain_subscription rule ≡ true → is_plain_session rule ≡ true
+subscription-part rule is = other-of (is_plain_rule rule) (is_plain_subscription rule) is
+
+pub silent_plain : AreSilent is_plain_rule
+silent_plain = part-silent is_plain_rule (λ rule is. plain-part rule is)
+
+pub silent_se : AreSilent is_plain_se
+silent_se = part-silent is_plain_se (λ rule is. se-part rule is)
+
+pub silent_lb : AreSilent is_plain_lb
+silent_lb = part-silent is_plain_lb (λ rule is. lb-part rule is)
+
+pub silent_subscription : AreSilent is_plain_subscription
+silent_subscription = part-silent is_plain_subscription (λ rule is. subscription-part rule is)
+
 pub sessions_plain : AreOnSessions is_plain_rule
-sessions_plain = record { each = λ tested rule chosen. sessions-of tested.role rule chosen }
+sessions_plain = part-sessions is_plain_rule (λ rule is. plain-part rule is)
 
 pub sessions_se : AreOnSessions is_plain_se
-sessions_se = record { each = λ tested rule chosen. sessions-of tested.role rule (one-of (is_plain_se rule) (is_plain_lb rule) chosen) }
+sessions_se = part-sessions is_plain_se (λ rule is. se-part rule is)
 
 pub sessions_lb : AreOnSessions is_plain_lb
-sessions_lb = record { each = λ tested rule chosen. sessions-of tested.role rule (other-of (is_plain_se rule) (is_plain_lb rule) chosen) }
+sessions_lb = part-sessions is_plain_lb (λ rule is. lb-part rule is)
+
+pub sessions_subscription : AreOnSessions is_plain_subscription
+sessions_subscription = part-sessions is_plain_subscription (λ rule is. subscription-part rule is)
 
 -- Where no statement turns out false under the fate, nothing is added.
 gains-none : (chosen : Rule → Bool) (tested : Tested) (f : Fate) (e : Seen) (past : List Seen) (at : ℕ) (faults : FaultMap) → ((k : ℕ) (r : Rule) → chosen r ≡ true → turns_with tested f e past k r ≡ false)

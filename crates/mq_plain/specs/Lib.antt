@@ -10,6 +10,7 @@ pub mod Handshakes
 pub mod Quota
 pub mod Finding
 pub mod Owing
+pub mod Subscribed
 pub mod Deliveries
 pub mod Events
 pub mod Waiting

@@ -14,7 +14,7 @@ use std::alloc::Global;
 
 /// A SUBSCRIBE that is received under an identifier.
 #[derive(Drop)]
-struct AsksToSubscribe(u16);
+pub struct AsksToSubscribe(pub u16);
 
 impl NoteTest for AsksToSubscribe {
     ghost use Rattle.mq_rules.specs.Words.{is_id};
@@ -29,7 +29,7 @@ impl NoteTest for AsksToSubscribe {
 
 /// A SUBACK that is sent under an identifier.
 #[derive(Drop)]
-struct GivesSuback(u16);
+pub struct GivesSuback(pub u16);
 
 impl NoteTest for GivesSuback {
     ghost use Rattle.mq_rules.specs.Words.{is_id};
@@ -44,7 +44,7 @@ impl NoteTest for GivesSuback {
 
 /// An UNSUBSCRIBE that is received under an identifier.
 #[derive(Drop)]
-struct AsksToUnsubscribe(u16);
+pub struct AsksToUnsubscribe(pub u16);
 
 impl NoteTest for AsksToUnsubscribe {
     ghost use Rattle.mq_rules.specs.Words.{is_id};
@@ -59,7 +59,7 @@ impl NoteTest for AsksToUnsubscribe {
 
 /// An UNSUBACK that is sent under an identifier.
 #[derive(Drop)]
-struct GivesUnsuback(u16);
+pub struct GivesUnsuback(pub u16);
 
 impl NoteTest for GivesUnsuback {
     ghost use Rattle.mq_rules.specs.Words.{is_id};
@@ -119,7 +119,7 @@ fn miscounts_unsubscribe(event: &Seen, before: &[Seen]) -> bool
 {
     match event.note.sent_fields() {
         Some(PacketFields::Unsuback { identifier, codes }) => {
-            is_unsubscribe_other(*identifier, *codes, before)
+            is_unsubscribe_other(*identifier, codes.len(), before)
         }
         _ => false,
     }
@@ -128,24 +128,24 @@ fn miscounts_unsubscribe(event: &Seen, before: &[Seen]) -> bool
 // Whether the first unanswered UNSUBSCRIBE under an identifier has a number of filters other than
 // this.
 fn is_unsubscribe_other(identifier: u16, codes: usize, before: &[Seen]) -> bool
-    ensures { result ≡ is_some_and (λ j. is_some_and (λ u. not (u.count == codes)) (received_unsubscription (note j))) (first_unsubscribe_after identifier (reverse before.now)) }
+    ensures { result ≡ is_some_and (λ j. is_some_and (λ u. not (length u.filters == codes)) (received_unsubscription (note j))) (first_unsubscribe_after identifier (reverse before.now)) }
 {
     match earliest_on_connection(
         &AsksToUnsubscribe(identifier),
         &GivesUnsuback(identifier),
         before,
     ) {
-        Some(first) => has_other_count(&first.event.note, codes),
+        Some(first) => deletes_other(&first.event.note, codes),
         None => false,
     }
 }
 
 // Whether it is an UNSUBSCRIBE that was received, and has a number of filters other than this.
-fn has_other_count(note: &Note, codes: usize) -> bool
-    ensures { result ≡ is_some_and (λ u. not (u.count == codes)) (received_unsubscription note.now) }
+fn deletes_other(note: &Note, codes: usize) -> bool
+    ensures { result ≡ is_some_and (λ u. not (length u.filters == codes)) (received_unsubscription note.now) }
 {
     match note.received_fields() {
-        Some(PacketFields::Unsubscribe { filters, .. }) => *filters != codes,
+        Some(PacketFields::Unsubscribe { filters, .. }) => filters.len() != codes,
         _ => false,
     }
 }

@@ -21,7 +21,7 @@ use mq_topic::matches;
 use std::alloc::Global;
 
 /// The lowest Reason Code that refuses (MQTT 5.0, section 2.4).
-const REFUSING: u8 = 0x80;
+pub const REFUSING: u8 = 0x80;
 
 // ---- topics
 
@@ -156,8 +156,8 @@ fn has_ceiling(topic: &str, least: u8, filter: &NotedFilter, ceiling: u8) -> boo
     least <= ceiling && matches(filter.filter.as_str(), topic)
 }
 
-// The first of the Reason Codes that are left, if there is one, and the others.
-fn next_code(codes: &[u8]) -> (Option<u8>, &[u8])
+/// The first of the Reason Codes that are left, if there is one, and the others.
+pub fn next_code(codes: &[u8]) -> (Option<u8>, &[u8])
     ensures first { result.0 ≡ first_code codes.now }
     ensures others { result.1.now ≡ other_codes codes.now }
 {

@@ -1,12 +1,14 @@
-//! Looking back for the earliest event that nothing has ended since.
+//! Looking back for the earliest event that nothing has ended since, and for the latest one.
 ghost use Rattle.std.specs.Prelude.{◌≡◌, ◌+◌, ◌==◌, ◌&&◌, ◌||◌, cond, Some, None, length, reverse};
-ghost use Rattle.mq_rules.specs.Moments.{newest, note, is_same, since, earliest_since};
+ghost use Rattle.mq_rules.specs.Moments.{newest, note, is_same, since, earliest_since, latest};
 ghost use Rattle.mq_rules.specs.Connections.{connection, session};
 ghost use Rattle.mq_plain.specs.Finding.{moment_in, moment_of};
 ghost use Rattle.mq_plain.specs.Lookback.{answer_by};
 
 use crate::lookback::NoteTest;
-use crate::session::{any_before, begins_at, fate_before, is_any_accepted, is_in_known_session};
+use crate::session::{
+    any_before, begins_at, fate_before, is_any_accepted, is_in_known_session, passes_in_session,
+};
 use mq_rules::{Fate, Note, Role, Seen};
 
 /// An event that was found, and the events before it.
@@ -65,6 +67,34 @@ pub fn earliest_on_connection<'a, S: NoteTest, E: NoteTest>(
         earlier = rest;
     }
     found
+}
+
+/// The latest event of the current session after these events, if the latest connection has this
+/// fate, that passes the test.
+pub fn latest_in_session<'a, T: NoteTest>(
+    role: Role,
+    fate: Option<Fate>,
+    test: &T,
+    before: &'a [Seen],
+) -> Option<Found<'a>>
+    ensures { moment_in result ≡ latest (λ m. T.test test.now (note m)) (session role fate (reverse before.now)) }
+{
+    let mut earlier = before;
+    let mut fate = fate;
+    while let Some((event, rest)) = earlier.split_last() {
+        if passes_in_session(role, fate, test, event, rest) {
+            return Some(Found {
+                event,
+                before: rest,
+            });
+        }
+        if begins_at(fate, &event.note) {
+            return None;
+        }
+        fate = fate_before(role, fate, &event.note, rest);
+        earlier = rest;
+    }
+    None
 }
 
 /// Whether in the current session after these events, if the latest connection has this fate, the

@@ -1,27 +1,36 @@
-//! The plain evaluator of the further statements on connections. It judges each event at once,
-//! since no fate of its connection is needed.
+//! The plain evaluator of the further statements. By those on connections it judges each event at
+//! once, since no fate of its connection is needed; by those on subscriptions in a second pass, as
+//! the other statements on sessions.
 ghost use Rattle.std.specs.Prelude.{reverse, OnOk, OnErr};
 ghost use Rattle.mq_rules.specs.Moments.{IsPlaced};
 ghost use Rattle.mq_rules.specs.Faults.{Grows, GrowsWithin};
-ghost use Rattle.mq_plain.specs.Chosen.{is_plain_further};
+ghost use Rattle.mq_plain.specs.Chosen.{is_plain_connection, is_plain_further, is_plain_subscription};
 
+mod answering;
 mod authentication;
+mod deletions;
 mod duties;
 mod errors;
 mod evaluator;
 mod excess;
+mod grants;
 mod judging;
 mod limits;
 mod moments;
 mod packets;
 mod showing;
 mod silences;
+mod subscribed;
 
+use crate::evaluator::{OnSessions, Then};
+use crate::pass::judge_each;
 use authentication::{AskedAuthentication, SameMethod, WaitsForConnack};
+use deletions::{FoundedDeletions, KnownSubscriptions};
 use duties::{AnsweredConnect, ClosedMalformed, ClosedReconnect};
 use errors::ClosedMistaken;
 use evaluator::{Also, OnLater, OnPasts, judge_events};
 use excess::ClosedExceeding;
+use grants::AskedQos;
 use limits::{NoIdentifiers, NoShares, NoWildcards, RetainedNothing, WillQos, WillRetain};
 use mq_rules::{Faults, Memory, Seen, Tested};
 use packets::{LocalShares, NamedShares, OwnCodes};
@@ -67,10 +76,16 @@ type Authentication<Others> = Also<
 // K01 and K02.
 type Silences = Also<OnPasts<HeardInTime>, OnPasts<ClosedInTime>>;
 
-/// Judges each event of a list, the oldest first, by the further statements on connections: on one
-/// packet and on what came before it (F01 to F06, V03, V04, V06, A01 to A03), on what a server owes
-/// for what it received (C24, D01 to D03, D05), and on the Keep Alive (K01, K02). A pair that
-/// already has a fault keeps it. Those that aren't asked for don't bind the tested end.
+// B05 to B07.
+type Subscriptions = Then<
+    OnSessions<AskedQos>,
+    Then<OnSessions<KnownSubscriptions>, OnSessions<FoundedDeletions>>,
+>;
+
+/// Judges each event of a list, the oldest first, by the further statements: on one packet and on
+/// what came before it (F01 to F06, V03, V04, V06, A01 to A03), on what a server owes for what it
+/// received (C24, D01 to D03, D05), on the Keep Alive (K01, K02), and on subscriptions (B05 to B07).
+/// A pair that already has a fault keeps it. Those that aren't asked for don't bind the tested end.
 ///
 /// # Errors
 ///
@@ -85,7 +100,39 @@ pub fn plain_further(
     ensures ok { IsPlaced (reverse seen.now) → OnOk result (Grows is_plain_further tested (reverse seen.now) faults.old faults.new) }
     ensures memory { IsPlaced (reverse seen.now) → OnErr result (GrowsWithin is_plain_further tested (reverse seen.now) faults.old faults.new) }
 {
+    judge_connections(alloc, tested, seen, faults)?;
+    judge_subscriptions(alloc, tested, seen, faults)?;
+    Ok(())
+}
+
+// Judges each event by the further statements on connections.
+//
+// Errors: `Memory` if there is none.
+fn judge_connections(
+    alloc: Global,
+    tested: Tested,
+    seen: &[Seen],
+    faults: &mut Faults,
+) -> Result<(), Memory>
+    ensures ok { IsPlaced (reverse seen.now) → OnOk result (Grows is_plain_connection tested (reverse seen.now) faults.old faults.new) }
+    ensures memory { IsPlaced (reverse seen.now) → OnErr result (GrowsWithin is_plain_connection tested (reverse seen.now) faults.old faults.new) }
+{
     judge_events::<Limits<Packets<Obligations<Authentication<Silences>>>>>(
         alloc, tested, seen, faults,
     )
+}
+
+// Judges each event by those on subscriptions.
+//
+// Errors: `Memory` if there is none.
+fn judge_subscriptions(
+    alloc: Global,
+    tested: Tested,
+    seen: &[Seen],
+    faults: &mut Faults,
+) -> Result<(), Memory>
+    ensures ok { IsPlaced (reverse seen.now) → OnOk result (Grows is_plain_subscription tested (reverse seen.now) faults.old faults.new) }
+    ensures memory { IsPlaced (reverse seen.now) → OnErr result (GrowsWithin is_plain_subscription tested (reverse seen.now) faults.old faults.new) }
+{
+    judge_each::<Subscriptions>(alloc, tested, seen, faults)
 }

@@ -7,10 +7,11 @@ ghost use Rattle.mq_rules.specs.Identifiers.{announces_bound, sends_again, is_pa
 ghost use Rattle.mq_plain.specs.Lookback.{may_be_discarded_after};
 
 use crate::connection::{latest_fate_of, some_on_connection};
+use crate::earliest::latest_in_session;
 use crate::handshake::handshake_of;
 use crate::identifiers::Opens;
 use crate::lookback::NoteTest;
-use crate::session::{before_latest, latest_in_session, since_in_session};
+use crate::session::{before_latest, since_in_session};
 use mq_rules::{Fate, Note, Role, Seen};
 
 /// A PUBLISH of QoS above 0, or a PUBREL, that is sent under an identifier.
@@ -106,7 +107,7 @@ pub fn may_be_discarded(role: Role, fate: Fate, identifier: u16, before: &[Seen]
         return false;
     }
     match latest_in_session(role, Some(fate), &opens, before) {
-        Some(opener) => is_passed_over(role, fate, identifier, opener, before),
+        Some(opener) => is_passed_over(role, fate, identifier, opener.before.len(), before),
         None => false,
     }
 }

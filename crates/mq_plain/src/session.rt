@@ -2,7 +2,7 @@
 ghost use Rattle.std.specs.Prelude.{◌≡◌, ◌<◌, ◌∷◌, ◌&&◌, not, cond, length, option_map, reverse, IfSome};
 ghost use Rattle.mq_rules.specs.Notes.{is_open};
 ghost use Rattle.mq_rules.specs.declared.note.Seen.{Seen as TheSeen};
-ghost use Rattle.mq_rules.specs.Moments.{newest, note, some, since, latest};
+ghost use Rattle.mq_rules.specs.Moments.{newest, note, some, since};
 ghost use Rattle.mq_rules.specs.Connections.{accepts as is_accepting, any_accepted, accepted, begins, comes_early, has_session, is_placed_release, latest_fate, session, voided};
 ghost use Rattle.mq_rules.specs.Connections as connections;
 ghost use Rattle.mq_rules.specs.Passing.{before_latest as earlier_than};
@@ -52,33 +52,9 @@ pub fn some_in_session<T: NoteTest>(
     since_in_session(role, fate, test, &Never, before)
 }
 
-/// How many events come before the latest one that passes the test, in the current session after
-/// these events, if the latest connection has this fate; none if none passes.
-pub fn latest_in_session<T: NoteTest>(
-    role: Role,
-    fate: Option<Fate>,
-    test: &T,
-    before: &[Seen],
-) -> Option<usize>
-    ensures { result ≡ option_map (λ m. length m.past) (latest (λ m. T.test test.now (note m)) (session role fate (reverse before.now))) }
-{
-    let mut earlier = before;
-    let mut fate = fate;
-    while let Some((event, rest)) = earlier.split_last() {
-        if passes_in_session(role, fate, test, event, rest) {
-            return Some(rest.len());
-        }
-        if begins_at(fate, &event.note) {
-            return None;
-        }
-        fate = fate_before(role, fate, &event.note, rest);
-        earlier = rest;
-    }
-    None
-}
-
-// Whether an event is in the session and passes the test, which comes first, since few events pass.
-fn passes_in_session<T: NoteTest>(
+/// Whether an event is in the session and passes the test, which comes first, since few events
+/// pass.
+pub fn passes_in_session<T: NoteTest>(
     role: Role,
     fate: Option<Fate>,
     test: &T,

@@ -7,6 +7,7 @@ pub mod AliveLaws
 pub mod CounterLaws
 pub mod FirstRestLaws
 pub mod WiderLaws
+pub mod SubscriptionLaws
 pub mod OccasionLaws
 pub mod PlacesLaws
 pub mod TrialLaws

@@ -1,5 +1,5 @@
--- Wherever a statement is false, it is put to the test: a lemma for each statement, and one for all.
-use Rattle.std.proofs.Common.{◌≡◌, ℕ, ◌+◌, ◌<◌, ◌==◌, nat_le, nat_lt, arith, Bool, true, false, ◌&&◌, ◌||◌, not, List, [], ◌∷◌, length, Option, Some, None, is_some, refl, subst}
+-- Wherever a statement is false, it is put to the test: a lemma for each statement, and one for all. Those on subscriptions are in SubscriptionLaws.
+use Rattle.std.proofs.Common.{◌≡◌, ℕ, ◌+◌, ◌<◌, ◌==◌, nat_le, nat_lt, arith, Bool, true, false, ◌&&◌, ◌||◌, not, List, [], ◌∷◌, Option, Some, None, is_some, refl, subst}
 use Rattle.std.specs.Prelude.{◌≤◌, max, unwrap_or}
 use Rattle.std.specs.Option.{option_and_then, option_or}
 use Rattle.std.specs.List.{list_any}
@@ -10,13 +10,12 @@ use Rattle.mq_packet.specs.declared.packet.Qos.TheVariants as quality
 use Rattle.mq_packet.specs.declared.packet.PacketType.{PacketType}
 use Rattle.mq_packet.specs.declared.packet.PacketType.TheVariants as types
 use Rattle.mq_packet.specs.Canonical.{type_number}
-use Rattle.mq_topic.specs.Matching.{matches}
 use Rattle.mq_rules.specs.declared.role.Role.{Role}
 use Rattle.mq_rules.specs.declared.role.Role.TheVariants.{Client, Server}
 use Rattle.mq_rules.specs.declared.role.Tested.{Tested}
 use Rattle.mq_rules.specs.declared.fate.Fate.{Fate}
 use Rattle.mq_rules.specs.declared.rule.Rule.{Rule}
-use Rattle.mq_rules.specs.declared.rule.Rule.TheVariants.{W01, W02, W03, W04, W05, W06, W07, W08, W09, W10, W11, W12, W13, W14, W15, W16, W17, W18, W19, W20, W21, C01, C02, C03, C04, C05, C06, C07, C08, C09, C10, C11, C12, C13, C14, C15, C16, C17, C18, C19, C20, C21, C22, C23, S01, S02, S03, S04, S05, S06, S07, E1A, E1R, E1O, E2A, E2R, E2O, E3A, E3R, E3O, E4A, E4R, E5A, E5R, E6A, E6R, E7R, L1, L2, L3, B01, B02, B03, B04, B05, F01, F02, F03, F04, F05, F06, V03, V04, V06, C24, D01, D02, D03, D05, A01, A02, A03, K01, K02}
+use Rattle.mq_rules.specs.declared.rule.Rule.TheVariants.{W01, W02, W03, W04, W05, W06, W07, W08, W09, W10, W11, W12, W13, W14, W15, W16, W17, W18, W19, W20, W21, C01, C02, C03, C04, C05, C06, C07, C08, C09, C10, C11, C12, C13, C14, C15, C16, C17, C18, C19, C20, C21, C22, C23, S01, S02, S03, S04, S05, S06, S07, E1A, E1R, E1O, E2A, E2R, E2O, E3A, E3R, E3O, E4A, E4R, E5A, E5R, E6A, E6R, E7R, L1, L2, L3, B01, B02, B03, B04, B05, B06, B07, F01, F02, F03, F04, F05, F06, V03, V04, V06, C24, D01, D02, D03, D05, A01, A02, A03, K01, K02}
 use Rattle.mq_rules.specs.declared.note.Note.{Note}
 use Rattle.mq_rules.specs.declared.note.ItemNote.{ItemNote}
 use Rattle.mq_rules.specs.declared.note.Seen.{Seen}
@@ -27,7 +26,7 @@ use Rattle.mq_rules.specs.declared.packet_note.ConnackNote.{ConnackNote}
 use Rattle.mq_rules.specs.declared.packet_note.WillNote.{WillNote}
 use Rattle.mq_rules.specs.declared.packet_note.DisconnectNote.{DisconnectNote}
 use Rattle.mq_rules.specs.Words.{is_some_and, is_id}
-use Rattle.mq_rules.specs.Notes.{is_close, is_rest, refuses, sent_packet, sent_publish, sent_disconnect, sent_connack, sent_wishes, sent_receipt_code, sent_item, is_of_type, foreign_types, type_number_in, sends_type, receives_type, may_explain, resumed_by, is_acknowledged, qos_number, opener_of, resend_of, sent_as, pubrel_in, subscribe_in, suback_in, unsubscribe_in, unsuback_in, received_as, success_pubcomp_in, released_id, sent_grant, sent_unsuback, received_subscription, received_unsubscription, is_received_pingreq, is_sent_pingresp, sends_auth}
+use Rattle.mq_rules.specs.Notes.{is_close, is_rest, sent_packet, sent_publish, sent_disconnect, sent_connack, sent_wishes, sent_receipt_code, sent_item, is_of_type, foreign_types, type_number_in, sends_type, receives_type, may_explain, resumed_by, qos_number, opener_of, resend_of, sent_as, pubrel_in, subscribe_in, suback_in, unsubscribe_in, unsuback_in, received_as, success_pubcomp_in, released_id, is_received_pingreq, is_sent_pingresp, sends_auth}
 use Rattle.mq_rules.specs.Moments.{Moment, note, moments, is_same, is_after, some, since, those, count, some_stretch}
 use Rattle.mq_rules.specs.Connections.{begun, number, connection, fate, is_binding, latest_fate, resumed, session}
 use Rattle.mq_rules.specs.Pasts.{sends_typed, sends_or_closes, came_before, is_sent_disconnect, is_sent_refusal, says_session_present, accepts_so, connect_before, connack_before, is_alive, peer_maximum_packet_size, peer_topic_alias_maximum, peer_receive_maximum, knows_peer, set_alias, used_alias, is_last_sent, breaks_C01, breaks_C02, breaks_C03, breaks_C04, breaks_C05, breaks_C06, breaks_C07, breaks_C08, breaks_C09, breaks_C10, breaks_C11, breaks_C12, breaks_C13, breaks_C14, breaks_C15, breaks_C16, breaks_C17, breaks_C18, breaks_C19, breaks_C20, breaks_C21, breaks_C22, breaks_C23, applies_C01, applies_C02, applies_C03, applies_C04, applies_C05, applies_C06, applies_C07, applies_C08, applies_C09, applies_C10, applies_C11, applies_C12, applies_C13, applies_C14, applies_C15, applies_C16, applies_C17, applies_C18, applies_C19, applies_C20, applies_C21, applies_C22, applies_C23}
@@ -37,12 +36,14 @@ use Rattle.mq_rules.specs.FurtherRests.{is_unrefused, leaves_unanswered, owes_C2
 use Rattle.mq_rules.specs.Identifiers.{opens_id, closes_id, delivers, session_before, is_open_at, latest_opener, awaits_suback, awaits_unsuback, may_be_discarded, is_busy_at, takes_some, is_any_busy_at, taken_by, was_sent_on_void, was_sent_before_session, was_cut_off, opens_exactly_once, sends_pubrel, comes_after, is_delivery, is_closer, counts, passes, is_waiting, came_on, was_open, was_sent_again, is_excused, breaks_S01, breaks_S02, breaks_S03, breaks_S04, breaks_S05, breaks_S07, shows_S06, applies_S01, applies_S02, applies_S03, applies_S04, applies_S05, applies_S06, applies_S07}
 use Rattle.mq_rules.specs.Exchanges.{Exchange, publish_puback, publish_pubrec, pubrec_pubrel, pubrel_pubcomp, subscribe_suback, unsubscribe_unsuback, answers, causes, first_unanswered, is_other_unanswered, breaks_A, breaks_O, shows_R, breaks_E7R, applies_A, applies_O, applies_R, applies_E7R}
 use Rattle.mq_rules.specs.Releases.{brings, releases_message, ends, first_brought, may_lapse, breaks_L1, breaks_L2, breaks_L3, applies_L1, applies_L2, applies_L3}
-use Rattle.mq_rules.specs.Subscriptions.{Standing, standing_at, topic_of, asks_to_share, is_delivered_so, breaks_B01, breaks_B02, breaks_B03, breaks_B04, breaks_B05, applies_B01, applies_B02, applies_B03, applies_B04, applies_B05, requested_each, some_granted}
+use Rattle.mq_rules.specs.Subscriptions.{breaks_B01, breaks_B02, breaks_B03, breaks_B04, breaks_B05, applies_B01, applies_B02, applies_B03, applies_B04, applies_B05}
+use Rattle.mq_rules.specs.FurtherSubscriptions.{breaks_B06, breaks_B07, applies_B06, applies_B07}
 use Rattle.mq_rules.specs.Rules.{binds}
 use Rattle.mq_rules.specs.Statements.{statement, is_by_bytes, is_on_bytes, is_so, fails}
 use Rattle.mq_rules.specs.Occasions.{occasion, occurs, applies}
 use Rattle.mq_rules.proofs.Exports.{among-some, and_false, and_true, both_true, or_left, or_right, session-members, some-among, those-among}
 use Rattle.mq_rules_laws.proofs.WiderLaws.{is_there, wider-there, passing-id, first_true, wider-some, since-some, since-fewer, count-some, wider-stretch, wider-past, wider-session, wider-knowing, wider-knowing_resumed, wider-placed, wider-rest, wider-later}
+use Rattle.mq_rules_laws.proofs.SubscriptionLaws.{B01-applies, B02-applies, B03-applies, B04-applies, B05-applies, B06-applies, B07-applies}
 
 -- ---- the past of a connection
 
@@ -562,83 +563,6 @@ L3-applies role f k h = wider-there old new each (sent_as success_pubcomp_in (no
     each i = wider-there (λ first. not (since (releases_message i) (ends i) (session_before role f k)) && not (may_lapse role f i k first)) (λ first. not (may_lapse role f i k first))
         (λ first t. (both_true (not (since (releases_message i) (ends i) (session_before role f k))) (not (may_lapse role f i k first)) t).1) (first_brought role f i k)
 
--- ---- subscriptions
-
--- a PUBLISH that passes another test
-wider-delivered : (role : Role) (f : Fate) (k : Moment) (a b : PublishNote → List ℕ → Bool) → ((p : PublishNote) (topic : List ℕ) → a p topic ≡ true → b p topic ≡ true)
-    → is_delivered_so role f k a ≡ true → is_delivered_so role f k b ≡ true
-wider-delivered role f k a b each h = wider-there (passing a) (passing b) new (sent_publish (note k)) h
-  where
-    known : Bool
-    known = not (some asks_to_share (session_before role f k))
-
-    passing : (PublishNote → List ℕ → Bool) → PublishNote → Bool
-    passing test p = not p.duplicate && (known && is_some_and (test p) (topic_of k p))
-
-    new : (p : PublishNote) → passing a p ≡ true → passing b p ≡ true
-    new p h =
-        let q = both_true (not p.duplicate) (known && is_some_and (a p) (topic_of k p)) h in
-        let r = both_true known (is_some_and (a p) (topic_of k p)) q.1 in
-        and_true (not p.duplicate) (known && is_some_and (b p) (topic_of k p)) q.0 (and_true known (is_some_and (b p) (topic_of k p)) r.0 (wider-there (a p) (b p) (each p) (topic_of k p) r.1))
-
-pub B01-applies : (role : Role) (f : Fate) (k : Moment) → breaks_B01 role f k ≡ true → applies_B01 role f k ≡ true
-unfolding breaks_B01 applies_B01
-B01-applies role f k h = wider-delivered role f k (λ p topic. not (list_any (λ s. matches s.filter topic) (standing_at role f k))) (λ p topic. true) (λ p topic t. refl) h
-
--- at QoS 0 no ceiling is too low
-some-at-zero : (topic : List ℕ) (ss : List Standing) → (list_any (λ s. matches s.filter topic) ss && not (list_any (λ s. matches s.filter topic && nat_le 0 s.ceiling) ss)) ≡ true → ⊥
-some-at-zero topic [] h = absurd (cc)
-some-at-zero topic (s ∷ ss) h = go (matches s.filter topic) h (some-at-zero topic ss)
-  where
-    go : (b : Bool) → ((b || list_any (λ s. matches s.filter topic) ss) && not ((b && nat_le 0 s.ceiling) || list_any (λ s. matches s.filter topic && nat_le 0 s.ceiling) ss)) ≡ true
-        → ((list_any (λ s. matches s.filter topic) ss && not (list_any (λ s. matches s.filter topic && nat_le 0 s.ceiling) ss)) ≡ true → ⊥) → ⊥
-    go true h rest = absurd (let zero : nat_le 0 s.ceiling ≡ true = le-leb 0 s.ceiling (omega arith) in cc)
-    go false h rest = rest h
-
-pub B02-applies : (role : Role) (f : Fate) (k : Moment) → breaks_B02 role f k ≡ true → applies_B02 role f k ≡ true
-unfolding breaks_B02 applies_B02
-B02-applies role f k h = wider-delivered role f k (λ p topic. too_high p.qos topic) (λ p topic. is_acknowledged p.qos) (λ p topic t. above p.qos topic t) h
-  where
-    too_high : Qos → List ℕ → Bool
-    too_high q topic = list_any (λ s. matches s.filter topic) (standing_at role f k) && not (list_any (λ s. matches s.filter topic && nat_le (qos_number q) s.ceiling) (standing_at role f k))
-
-    above : (q : Qos) (topic : List ℕ) → too_high q topic ≡ true → is_acknowledged q ≡ true
-    above quality.AtMostOnce topic h = absurd (some-at-zero topic (standing_at role f k) h)
-    above quality.AtLeastOnce topic h = refl
-    above quality.ExactlyOnce topic h = refl
-
-pub B03-applies : (k : Moment) → breaks_B03 k ≡ true → applies_B03 k ≡ true
-unfolding breaks_B03 applies_B03
-B03-applies k h = wider-there (λ a. is_some_and (λ j. is_some_and (λ s. not (length s.filters == length a.codes)) (received_subscription (note j))) (first_unanswered subscribe_suback a.identifier k))
-    (λ a. is_some (first_unanswered subscribe_suback a.identifier k))
-    (λ a. is_there (λ j. is_some_and (λ s. not (length s.filters == length a.codes)) (received_subscription (note j))) (first_unanswered subscribe_suback a.identifier k)) (sent_grant (note k)) h
-
-pub B04-applies : (k : Moment) → breaks_B04 k ≡ true → applies_B04 k ≡ true
-unfolding breaks_B04 applies_B04
-B04-applies k h = wider-there (λ a. is_some_and (λ j. is_some_and (λ u. not (u.count == a.count)) (received_unsubscription (note j))) (first_unanswered unsubscribe_unsuback a.identifier k))
-    (λ a. is_some (first_unanswered unsubscribe_unsuback a.identifier k))
-    (λ a. is_there (λ j. is_some_and (λ u. not (u.count == a.count)) (received_unsubscription (note j))) (first_unanswered unsubscribe_unsuback a.identifier k)) (sent_unsuback (note k)) h
-
--- what is granted so that it passes a test is granted
-wider-granted : (test : ℕ → ℕ → Bool) (asked codes : List ℕ) → some_granted test asked codes ≡ true → some_granted (λ qos code. true) asked codes ≡ true
-wider-granted test [] codes h = absurd (cc)
-wider-granted test (qos ∷ others) [] h = absurd (cc)
-wider-granted test (qos ∷ others) (code ∷ codes) h = go (not (refuses code)) (test qos code) (wider-granted test others codes) h
-  where
-    go : (b t : Bool) → (some_granted test others codes ≡ true → some_granted (λ qos code. true) others codes ≡ true) → ((b && t) || some_granted test others codes) ≡ true → ((b && true) || some_granted (λ qos code. true) others codes) ≡ true
-    go true t rest h = refl
-    go false t rest h = rest h
-
-pub B05-applies : (k : Moment) → breaks_B05 k ≡ true → applies_B05 k ≡ true
-unfolding breaks_B05 applies_B05
-B05-applies k h = wider-there (λ a. is_some_and (granted_so nat_lt a.codes) (first_unanswered subscribe_suback a.identifier k)) (λ a. is_some_and (granted_so (λ qos code. true) a.codes) (first_unanswered subscribe_suback a.identifier k))
-    (λ a. wider-there (granted_so nat_lt a.codes) (granted_so (λ qos code. true) a.codes)
-    (λ j. wider-there (λ s. some_granted nat_lt (requested_each s.filters) a.codes) (λ s. some_granted (λ qos code. true) (requested_each s.filters) a.codes)
-    (λ s. wider-granted nat_lt (requested_each s.filters) a.codes) (received_subscription (note j))) (first_unanswered subscribe_suback a.identifier k)) (sent_grant (note k)) h
-  where
-    granted_so : (ℕ → ℕ → Bool) → List ℕ → Moment → Bool
-    granted_so test codes j = is_some_and (λ s. some_granted test (requested_each s.filters) codes) (received_subscription (note j))
-
 -- ---- what a later REST shows
 
 pub C24-applies : (t m : Moment) → shows_C24 t m ≡ true → applies_C24 t m ≡ true
@@ -757,6 +681,8 @@ line-applies role B02 fates log k h by_bytes = wider-session role fates (breaks_
 line-applies role B03 fates log k h by_bytes = wider-session role fates (λ f. breaks_B03) (λ f. applies_B03) (λ f. B03-applies) log k h
 line-applies role B04 fates log k h by_bytes = wider-session role fates (λ f. breaks_B04) (λ f. applies_B04) (λ f. B04-applies) log k h
 line-applies role B05 fates log k h by_bytes = wider-session role fates (λ f. breaks_B05) (λ f. applies_B05) (λ f. B05-applies) log k h
+line-applies role B06 fates log k h by_bytes = wider-session role fates (breaks_B06 role) (applies_B06 role) (B06-applies role) log k h
+line-applies role B07 fates log k h by_bytes = wider-session role fates (breaks_B07 role) (applies_B07 role) (B07-applies role) log k h
 line-applies role F01 fates log k h by_bytes = wider-past role fates breaks_F01 applies_F01 F01-applies log k h
 line-applies role F02 fates log k h by_bytes = wider-past role fates breaks_F02 applies_F02 F02-applies log k h
 line-applies role F03 fates log k h by_bytes = wider-past role fates breaks_F03 applies_F03 F03-applies log k h

@@ -1,12 +1,14 @@
-//! Tests on an event with what comes before it, and looking back over a connection with them.
+//! Tests on an event with what comes before it, and looking back over a connection, or over a
+//! session, with them.
 ghost use Rattle.std.specs.Prelude.{◌≡◌, reverse};
 ghost use Rattle.mq_rules.specs.Moments.{latest, newest, since, some};
-ghost use Rattle.mq_rules.specs.Connections.{connection};
+ghost use Rattle.mq_rules.specs.Connections.{connection, session};
 ghost use Rattle.mq_rules.specs.FurtherRests.{is_first_of};
 ghost use Rattle.mq_plain.specs.Finding.{moment_in};
 
 use crate::earliest::Found;
-use mq_rules::Seen;
+use crate::session::{begins_at, fate_before, is_in_session};
+use mq_rules::{Fate, Role, Seen};
 
 /// A test on an event and on what comes before it.
 pub trait MomentTest {
@@ -83,4 +85,29 @@ pub fn latest_moment<'a, T: MomentTest>(test: &T, before: &'a [Seen]) -> Option<
         earlier = rest;
     }
     None
+}
+
+/// Whether some event of the current session after these events, if the latest connection has this
+/// fate, passes the test.
+pub fn some_moment_in_session<T: MomentTest>(
+    role: Role,
+    fate: Option<Fate>,
+    test: &T,
+    before: &[Seen],
+) -> bool
+    ensures { result ≡ some (T.test test.now) (session role fate (reverse before.now)) }
+{
+    let mut earlier = before;
+    let mut fate = fate;
+    while let Some((event, rest)) = earlier.split_last() {
+        if test.passes(event, rest) && is_in_session(role, fate, event, rest) {
+            return true;
+        }
+        if begins_at(fate, &event.note) {
+            return false;
+        }
+        fate = fate_before(role, fate, &event.note, rest);
+        earlier = rest;
+    }
+    false
 }

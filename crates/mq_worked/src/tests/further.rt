@@ -7,7 +7,55 @@ use std::alloc::Global;
 use std::test::Fail;
 
 // A statement, the position at which a log breaks it, the one that decides that, and the log.
-static BROKEN: [(Rule, u32, u32, &str); 23] = [
+static BROKEN: [(Rule, u32, u32, &str); 31] = [
+    (
+        Rule::B05,
+        5,
+        5,
+        "server OPEN <CONNECT-NAMED >CONNACK <SUBSCRIBE-0:1 >SUBACK:1",
+    ),
+    (
+        Rule::B05,
+        5,
+        5,
+        "server OPEN <CONNECT-NAMED >CONNACK <820B0001000001610200016200 >90050001008701",
+    ),
+    (
+        Rule::B05,
+        5,
+        5,
+        "server OPEN <CONNECT-NAMED <SUBSCRIBE-0:1 >CONNACK >SUBACK-1:1",
+    ),
+    (
+        Rule::B06,
+        7,
+        7,
+        "server OPEN <CONNECT-NAMED >CONNACK <SUBSCRIBE:1 >SUBACK:1 <UNSUBSCRIBE:1 >B00400010011",
+    ),
+    (
+        Rule::B06,
+        11,
+        11,
+        "server OPEN <CONNECT-KEPT >CONNACK <SUBSCRIBE:1 >SUBACK:1 CLOSE OPEN <RECONNECT >CONNACK-RESUMED <UNSUBSCRIBE:1 >B00400010011",
+    ),
+    (
+        Rule::B06,
+        7,
+        7,
+        "server OPEN <CONNECT-NAMED >CONNACK <SUBSCRIBE:1 >SUBACK:1 <A209000100000162000161 >B0050001001111",
+    ),
+    (
+        Rule::B07,
+        5,
+        5,
+        "server OPEN <CONNECT-NAMED >CONNACK <UNSUBSCRIBE:1 >UNSUBACK:1",
+    ),
+    (
+        Rule::B07,
+        7,
+        7,
+        "server OPEN <CONNECT-NAMED >CONNACK <SUBSCRIBE:1 >SUBACK-REFUSED:1 <UNSUBSCRIBE:1 >UNSUBACK:1",
+    ),
     (
         Rule::F01,
         4,
@@ -139,7 +187,16 @@ static BROKEN: [(Rule, u32, u32, &str); 23] = [
 ];
 
 // Logs that put a further statement to the test, and keep it.
-static KEPT: [&str; 17] = [
+static KEPT: [&str; 26] = [
+    "server OPEN <CONNECT-NAMED >CONNACK <SUBSCRIBE:1 >SUBACK-0:1",
+    "server OPEN <CONNECT-NAMED >CONNACK <SUBSCRIBE:1 <SUBSCRIBE-0:1 >SUBACK:1",
+    "server OPEN <CONNECT-NAMED >CONNACK <SUBSCRIBE:1 >SUBACK:1 <UNSUBSCRIBE:1 >UNSUBACK:1",
+    "server OPEN <CONNECT-NAMED >CONNACK <UNSUBSCRIBE:1 >B00400010011",
+    "server OPEN <CONNECT-NAMED >CONNACK <SUBSCRIBE:1 >SUBACK:1 <A209000100000161000161 >B0050001000011",
+    "server OPEN <CONNECT-NAMED >CONNACK <SUBSCRIBE:1 >SUBACK:1 <SUBSCRIBE:1 <UNSUBSCRIBE:2 >B00400020011",
+    "server OPEN <CONNECT-NAMED >CONNACK <SUBSCRIBE:1 >SUBACK:1 <UNSUBSCRIBE:1 <UNSUBSCRIBE:2 >B00400010011",
+    "server OPEN <CONNECT-NAMED >CONNACK <SUBSCRIBE:1 <UNSUBSCRIBE:2 >B00400020000",
+    "server OPEN <CONNECT-KEPT >CONNACK <SUBSCRIBE:1 >SUBACK:1 CLOSE OPEN <CONNECT-NAMED >CONNACK <UNSUBSCRIBE:1 >B00400010011",
     "client OPEN >CONNECT <20050000022500 >PUBLISH0",
     "client OPEN >CONNECT <20050000022500 CLOSE OPEN >CONNECT <CONNACK >31050001610078",
     "client OPEN >CONNECT <20050000022800 >SUBSCRIBE:1",

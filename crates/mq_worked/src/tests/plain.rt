@@ -3,7 +3,7 @@ use mq_connections::{plain_c, plain_connections, plain_w};
 use mq_judge::{Judge, Options};
 use mq_log::{Event, Place3, Refusal};
 use mq_plain::{plain_further, plain_lb, plain_se, plain_sessions};
-use mq_rules::{Fault, FaultKey, Faults, Further, Memory, Note, Rule, Seen, Tested};
+use mq_rules::{Faults, Further, Memory, Note, Seen, Tested};
 use mq_trace::{Sink, Tracer};
 use mq_watchers::watch_sessions;
 use std::alloc::Global;
@@ -150,25 +150,8 @@ pub fn plain_further_faults_in(
     }
 }
 
-// Whether no plain evaluator judges a statement.
-fn is_without_evaluator(rule: Rule) -> bool {
-    matches!(rule, Rule::B05)
-}
-
-// Whether a fault is among these, if a plain evaluator judges its statement.
-fn is_found(faults: &Faults, key: FaultKey, fault: Fault) -> bool {
-    is_without_evaluator(key.rule) || faults.get(key) == Some(fault)
-}
-
-// Whether all of these faults are among those, but for statements that no plain evaluator judges.
-fn are_all_found(these: &Faults, those: &Faults) -> bool {
-    these
-        .iter()
-        .all(|(key, fault)| is_found(those, *key, *fault))
-}
-
 /// Whether the judge and the plain evaluators find the same faults in a log if these further
-/// statements are asked for, but for those that have no plain evaluator; or both refuse it.
+/// statements are asked for, or both refuse it.
 ///
 /// # Errors
 ///
@@ -185,11 +168,7 @@ pub fn are_further_faults_alike(
     let mut judge = Judge::new(alloc, options);
     let judged = judge.feed(log);
     match plain_further_faults_in(alloc, log, further)? {
-        Some(faults) => Ok(
-            judged.is_ok()
-                && are_all_found(judge.known(), &faults)
-                && are_all_found(&faults, judge.known()),
-        ),
+        Some(faults) => Ok(judged.is_ok() && are_same(judge.known(), &faults)),
         None => Ok(judged.is_err() || judge.role().is_none()),
     }
 }

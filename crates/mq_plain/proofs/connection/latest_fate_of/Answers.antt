@@ -1,4 +1,4 @@
-use Rattle.std.proofs.Common.{ap, sym, ◌∙◌, ◌∷◌, take, None, cond}
+use Rattle.std.proofs.Common.{ap, sym, ◌∙◌, take, None, cond}
 use Rattle.std.specs.Prelude.{reverse}
 use Rattle.std.specs.Option.{option_or}
 use Rattle.mq_rules.specs.Notes.{is_open}

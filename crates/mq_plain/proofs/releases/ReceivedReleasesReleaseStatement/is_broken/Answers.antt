@@ -1,4 +1,4 @@
-use Rattle.std.proofs.Common.{◌&&◌, not, ap, ◌∙◌, reverse}
+use Rattle.std.proofs.Common.{◌&&◌, ap, ◌∙◌, reverse}
 use Rattle.mq_rules.specs.Moments.{newest}
 use Rattle.mq_rules.specs.Releases.{breaks_L1}
 use Rattle.mq_plain.proofs.releases.ReceivedReleasesReleaseStatement.is_broken.Goals as goal

@@ -2,7 +2,7 @@ use Rattle.std.proofs.Common.{◌≡◌, length}
 use Rattle.std.specs.Prelude.{reverse}
 use Rattle.mq_rules.specs.Moments.{note, latest}
 use Rattle.mq_rules.specs.Connections.{session}
-use Rattle.mq_plain.proofs.session.latest_in_session.Given as goal
+use Rattle.mq_plain.proofs.earliest.latest_in_session.Given as goal
 
 -- what is left to look at decides
 abbrev pub invariant-loop-event : goal.invariant-loop-event

@@ -1,10 +1,10 @@
-use Rattle.std.proofs.Common.{rules, ◌≡◌, [], ◌∷◌, ◌++◌, length, Some, None, sym, ap, ◌∙◌}
-use Rattle.std.specs.Prelude.{reverse, option_map}
-use Rattle.std.proofs.lemmas.List.{reverse-append, length-reverse}
-use Rattle.mq_rules.specs.Moments.{Moment, note, latest}
+use Rattle.std.proofs.Common.{rules, ◌≡◌, [], ◌∷◌, ◌++◌, sym, ap, ◌∙◌}
+use Rattle.std.specs.Prelude.{reverse}
+use Rattle.std.proofs.lemmas.List.{reverse-append}
+use Rattle.mq_rules.specs.Moments.{note, latest}
 use Rattle.mq_rules.specs.Connections.{session}
 use Rattle.mq_plain.proofs.LookbackLaws.{no_events, latest-on, latest-here, latest-begun}
-use Rattle.mq_plain.proofs.session.latest_in_session.Goals as goal
+use Rattle.mq_plain.proofs.earliest.latest_in_session.Goals as goal
 
 pub loop-event-preserved : goal.loop-event-preserved
 loop-event-preserved g c =
@@ -24,9 +24,8 @@ returns-then-passes_in_session g c =
     let test = g.T.NoteTest.test c.args.test.now in
     let parts : c.loop-event.earlier.now ≡ rest ++ e ∷ [] = search rules in
     let front : reverse c.loop-event.earlier.now ≡ e ∷ reverse rest = ap reverse parts ∙ reverse-append rest (e ∷ []) in
-    ap Some (sym (length-reverse rest))
-    ∙ ap (option_map (λ (m : Moment). length m.past)) (sym (sym c.loop-event.invariant ∙ ap (λ es. latest (λ m. test (note m)) (session c.args.role c.loop-event.fate es)) front
-    ∙ latest-here test c.args.role c.loop-event.fate e (reverse rest) c.passes_in_session.result c.passes_in_session.ensures c.if-passes_in_session.true))
+    sym (sym c.loop-event.invariant ∙ ap (λ es. latest (λ m. test (note m)) (session c.args.role c.loop-event.fate es)) front
+    ∙ latest-here test c.args.role c.loop-event.fate e (reverse rest) c.passes_in_session.result c.passes_in_session.ensures c.if-passes_in_session.true)
 
 pub returns-then-begins_at : goal.returns-then-begins_at
 returns-then-begins_at g c =
@@ -35,11 +34,11 @@ returns-then-begins_at g c =
     let test = g.T.NoteTest.test c.args.test.now in
     let parts : c.loop-event.earlier.now ≡ rest ++ e ∷ [] = search rules in
     let front : reverse c.loop-event.earlier.now ≡ e ∷ reverse rest = ap reverse parts ∙ reverse-append rest (e ∷ []) in
-    ap (option_map (λ (m : Moment). length m.past)) (sym (sym c.loop-event.invariant ∙ ap (λ es. latest (λ m. test (note m)) (session c.args.role c.loop-event.fate es)) front
-    ∙ latest-begun test c.args.role c.loop-event.fate e (reverse rest) c.passes_in_session.result c.begins_at.result c.passes_in_session.ensures c.if-passes_in_session.false c.begins_at.ensures c.if-begins_at.true))
+    sym (sym c.loop-event.invariant ∙ ap (λ es. latest (λ m. test (note m)) (session c.args.role c.loop-event.fate es)) front
+    ∙ latest-begun test c.args.role c.loop-event.fate e (reverse rest) c.passes_in_session.result c.begins_at.result c.passes_in_session.ensures c.if-passes_in_session.false c.begins_at.ensures c.if-begins_at.true)
 
 pub returns : goal.returns
 returns g c =
     let test = g.T.NoteTest.test c.args.test.now in
     let none : c.loop-event.earlier.now ≡ [] = no_events c.loop-event.earlier.now (search rules) in
-    ap (option_map (λ (m : Moment). length m.past)) (sym (sym c.loop-event.invariant ∙ ap (λ es. latest (λ m. test (note m)) (session c.args.role c.loop-event.fate (reverse es))) none))
+    sym (sym c.loop-event.invariant ∙ ap (λ es. latest (λ m. test (note m)) (session c.args.role c.loop-event.fate (reverse es))) none)
