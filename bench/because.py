@@ -461,6 +461,18 @@ def grants_too_much(log: Log, k: int) -> Evidence:
     return Evidence("the SUBSCRIBE, which asks for less", first_unanswered(log, "E5", k, log.sent_packet(k).identifier))
 
 
+@says("B06")
+def denies_a_subscription(log: Log, k: int) -> Evidence:
+    """The UNSUBSCRIBE that is answered."""
+    return Evidence("the UNSUBSCRIBE, for a filter that was subscribed", first_unanswered(log, "E6", k, log.sent_packet(k).identifier))
+
+
+@says("B07")
+def deletes_what_never_was(log: Log, k: int) -> Evidence:
+    """The UNSUBSCRIBE that is answered."""
+    return Evidence("the UNSUBSCRIBE, for a filter that was never subscribed", first_unanswered(log, "E6", k, log.sent_packet(k).identifier))
+
+
 # -- F, V, C24, D and A, of further statements: the CONNACK or the CONNECT of the connection, or a REST; of a value in one packet nothing earlier
 
 

@@ -11,7 +11,7 @@ from further_table import (
     IDENTIFIERS, SUBSCRIPTION_IDENTIFIER, applies, fails, is_announced_0, is_bad_of, is_shared, share,
 )
 from reading import Lost, PUBLISH, Packet, SUBACK, SUBSCRIBE, UNSUBACK, UNSUBSCRIBE
-from sessions import Log
+from sessions import NEW, Log
 from statements import closer, first_unanswered, matches, publish_id, sent, topic_of
 
 ANSWERS = {SUBSCRIBE: SUBACK, UNSUBSCRIBE: UNSUBACK}
@@ -75,9 +75,11 @@ def requests_before(log: Log, k: int, *types: int) -> list[Request]:
 
 
 def is_untold(log: Log, k: int) -> bool:
-    """Since k's session began, on a void connection too, bytes were received of a SUBSCRIBE or an UNSUBSCRIBE that break a rule, or
-    that can't be read."""
-    return any(log.session_positions[log.sessions[k]][0] <= j < k for j in unclear(log))
+    """Since the connection began with which k's session did, on a void connection too, bytes were received of a SUBSCRIBE or an
+    UNSUBSCRIBE that break a rule, or that can't be read. If the log hasn't that connection, since the log began."""
+    first = log.sessions[k]
+    begun = log.session_positions[first][0] if log.fates[first] == NEW else 1
+    return any(begun <= j < k for j in unclear(log))
 
 
 def unclear(log: Log) -> list[int]:
@@ -296,29 +298,43 @@ def unsubscribed(log: Log, k: int) -> list[tuple[Request, int]]:
     return [] if log.sessions[k] is None or is_untold(log, k) else answered(log, k, UNSUBSCRIBE, "E6")
 
 
-def stands(log: Log, one: Request) -> bool:
+def said_before(log: Log, k: int, j: int, filter: bytes) -> list[int | None]:
+    """What the SUBACK that answers the SUBSCRIBE at j, for which that is the first unanswered one, says of each place of a filter, if it
+    was sent before k."""
+    p = log.received_packet(j, SUBSCRIBE)
+    between = [m for m in log.connection_positions[log.places[j]] if j < m < k]
+    at = next((m for m in between if log.sends(m, SUBACK, p.identifier)), None)
+    is_answered = at is not None and first_unanswered(log, "E5", at, p.identifier) == j
+    codes = [*(log.sent_packet(at).codes if is_answered else []), *[None] * len(p.filters)]
+    return [codes[n] for n, (asked, _) in enumerate(p.filters) if asked == filter]
+
+
+def stands(log: Log, k: int, one: Request) -> bool:
     """The last SUBSCRIBE with the filter of this UNSUBSCRIBE was granted before it, and neither another UNSUBSCRIBE since, nor an
-    earlier place of its own, has the filter."""
-    before = requests_before(log, one.at, SUBSCRIBE, UNSUBSCRIBE)
-    last = next((other for other in reversed(before) if other.filter == one.filter), None)
-    is_granted = last is not None and last.type == SUBSCRIBE and last.is_done() and last.answered < one.at
-    return is_granted and not any(other.filter == one.filter for other in requests_at(log, one.at)[: one.place])
+    earlier place of its own, nor a request between it and k has the filter. Of several places the last one that has a code counts."""
+    about = [other for other in requests_before(log, k, SUBSCRIBE, UNSUBSCRIBE) if other.filter == one.filter]
+    before = [other for other in about if other.is_before(one)]
+    if about[-1].at > one.at or not before or before[-1].type != SUBSCRIBE:
+        return False
+    codes = [code for code in said_before(log, one.at, before[-1].at, one.filter) if code is not None]
+    return codes != [] and codes[-1] < 0x80
 
 
 @applies("B06")
 def answers_for_a_subscription(log: Log, k: int) -> bool:
     """An UNSUBACK says 0x00 or 0x11 of a filter that is subscribed."""
-    return any(code in (0, 0x11) and stands(log, one) for one, code in unsubscribed(log, k))
+    return any(code in (0, 0x11) and stands(log, k, one) for one, code in unsubscribed(log, k))
 
 
 @fails("B06", sent([UNSUBACK]))
 def denies_a_subscription(log: Log, k: int) -> bool:
-    return any(code == 0x11 and stands(log, one) for one, code in unsubscribed(log, k))
+    return any(code == 0x11 and stands(log, k, one) for one, code in unsubscribed(log, k))
 
 
 def is_unheard_of(log: Log, k: int, filter: bytes) -> bool:
     """No SUBSCRIBE before k in its session has this filter, refused ones aside."""
-    return not any(one.filter == filter and not one.is_refused(k) for one in requests_before(log, k, SUBSCRIBE))
+    asked = {one.at for one in requests_before(log, k, SUBSCRIBE) if one.filter == filter}
+    return not any(code is None or code < 0x80 for j in asked for code in said_before(log, k, j, filter))
 
 
 @applies("B07")

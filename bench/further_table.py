@@ -55,7 +55,7 @@ for line in SHAPES.strip().split("\n"):
     SENTENCES[code] = sentence
 TIMED = ("K01", "K02")  # that look at moments
 ALWAYS, ALL, TIMES = "", "--all", "--times"  # how much the program is asked for: by no option, or by one of these
-UNTIMED = ("B05", "F01", "F02", "F03", "F04", "F05", "F06", "V03", "V04", "V06", "C24", "D01", "D02", "D03", "D05", "A01", "A02", "A03")
+UNTIMED = ("B05", "B06", "B07", "F01", "F02", "F03", "F04", "F05", "F06", "V03", "V04", "V06", "C24", "D01", "D02", "D03", "D05", "A01", "A02", "A03")
 # Those that the program judges too, by the option that asks for them; and all of them.
 ASKED: dict[str, tuple[str, ...]] = {ALWAYS: (), ALL: UNTIMED, TIMES: (*UNTIMED, *TIMED)}
 JUDGED = ASKED[TIMES]

@@ -140,7 +140,7 @@ class Honest:
         self.is_named = self.chance(0.8)
         self.is_hurried = self.chance(0.4)  # connections are short, and leave much open
         self.is_patient = self.chance(0.4)  # sends again one after the other
-        self.is_fickle = self.chance(0.2)  # a client that subscribes and unsubscribes often
+        self.is_fickle = self.chance(0.3)  # a client that subscribes and unsubscribes often
         self.bounds = self.draw.choice(((), (), (), ("size",), ("qos",), ("retain",)))  # that the peer announces often
         self.is_kept = False  # there is a session that may be resumed
         self.is_alive = False  # as far as the log tells
@@ -651,9 +651,11 @@ class Honest:
             return
         identifier, subscribes = self.draw.choice(free), self.chance(0.5 if self.is_fickle else 0.75)
         known = [one for one in FILTERS if self.line.limits.wildcards or not {"+", "#"} & set(one)]
-        if not subscribes and self.state.filters and self.chance(0.6):
+        if not subscribes and self.state.filters and self.chance(0.8 if self.is_fickle else 0.6):
             known = list(self.state.filters)
         filters = [(one, self.draw.randrange(3)) for one in self.draw.sample(known, min(len(known), self.draw.randint(1, 2)))]
+        if len(filters) == 1 and self.chance(0.15):
+            filters.append((filters[0][0], self.draw.randrange(3)))
         self.line.asked.add(identifier)
         self.line.is_filled = True
         self.line.requests[identifier] = filters
@@ -695,10 +697,12 @@ class Honest:
         return code
 
     def _unsubscribed(self, identifier: int, one: str, qos: int) -> int:
-        """What an UNSUBACK says of one: that it is deleted, that it never was or is no more, or that it isn't given up."""
+        """What an UNSUBACK says of one: that it is deleted, that it never was or is no more, or that it isn't given up. If it comes twice it is
+        given up at its first place."""
         if self.chance(0.05):
             return 0x87
         is_lacking = self.state.heard[one] <= 0 or (one in self.line.unwanted[identifier] and self.chance(0.5))
+        self.line.unwanted[identifier].add(one)
         return 0x11 if is_lacking else 0
 
 

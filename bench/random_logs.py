@@ -196,7 +196,7 @@ class Session:
         self.tape.mark(OPEN)
         self.takes_all = self.is_early
         self.bursts = self.chance(0.1)
-        self.is_fickle = self.chance(0.3 if self.role == SERVER else 0.05)
+        self.is_fickle = self.chance(0.5 if self.role == SERVER else 0.05)
         self._begin_again()
         is_clean = self.chance(0.8 if is_first else 0.25)
         if self.chance(0.95):
@@ -261,8 +261,9 @@ class Session:
     def _subscribe_and_unsubscribe(self) -> None:
         """The client asks for few filters, and gives them up, again and again. Mostly the server answers at once."""
         self.owed[SERVER] = []
+        kind, other = Type.SUBSCRIBE, Type.UNSUBSCRIBE
         for _ in range(self.draw.randint(2, 10)):
-            kind = self.draw.choice((Type.SUBSCRIBE, Type.UNSUBSCRIBE))
+            kind, other = (other, kind) if self.chance(0.7) else (kind, other)
             self._say(CLIENT, self._packet(CLIENT, kind, self.draw.choice(IDENTIFIERS), self.draw.randint(1, 2)))
             if self.owed[SERVER] and self.chance(0.9):
                 self._say(SERVER, self._answer(SERVER))

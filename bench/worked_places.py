@@ -210,6 +210,10 @@ def asks(filter: bytes) -> Callable[..., Packet]:
     return lambda i, qos=0: packet(SUBSCRIBE, identifier=i, filters=[(filter, qos)])
 
 
+def removes(*filters: bytes) -> Callable[[int], Packet]:
+    return lambda i: packet(UNSUBSCRIBE, identifier=i, filters=[(filter, 0) for filter in filters])
+
+
 def sends(item: Packet | Bad | Lost) -> Event:
     return Event(SENT, 0, item)
 
@@ -281,7 +285,13 @@ WORDS: dict[str, Callable] = {
     "aliased": lambda topic, alias: publish(0, None, topic=bytes(topic), alias=alias),
     "subscribed": lambda: replace(publish(0, None), properties=[(0x0B, 7)]),
     "asks_a": asks(b"a"),
+    "asks_b": asks(b"b"),
     "asks_both": lambda i, *options: packet(SUBSCRIBE, identifier=i, filters=list(zip((b"a", b"b"), options))),
+    "asks_twice": lambda i: packet(SUBSCRIBE, identifier=i, filters=[(b"a", 0)] * 2),
+    "removes_a": removes(b"a"),
+    "removes_b": removes(b"b"),
+    "removes_both": removes(b"a", b"b"),
+    "removes_twice": removes(b"a", b"a"),
     "asks_shared": asks(b"$share/g/a"),
     "asks_plainly": lambda: asks(b"a")(1),
     "asks_widely": lambda: asks(b"#")(1),
@@ -294,8 +304,7 @@ WORDS: dict[str, Callable] = {
     "Pubrel": acknowledges(PUBREL),
     "Pubcomp": acknowledges(PUBCOMP),
     "Suback": lambda i, codes: packet(SUBACK, identifier=i, codes=codes),
-    "Unsubscribe": lambda i, count: packet(UNSUBSCRIBE, identifier=i, filters=[(b"a", 0)] * count),
-    "Unsuback": lambda i, count: packet(UNSUBACK, identifier=i, codes=[0] * count),
+    "Unsuback": lambda i, codes: packet(UNSUBACK, identifier=i, codes=codes),
     "Pingreq": lambda: packet(PINGREQ),
     "Pingresp": lambda: packet(PINGRESP),
 }

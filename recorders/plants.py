@@ -37,6 +37,7 @@ from planting import (
     with_body,
 )
 
+NO_SUBSCRIPTION = 0x11  # the Reason Code of an UNSUBACK
 SEEN_IN = {  # scenarios in which packets of a type come
     Type.CONNACK: "connect-plain",
     Type.PUBLISH: "subscribe-granted",
@@ -530,6 +531,15 @@ def of_requests() -> Iterator[Plant]:
         Type.SUBACK, got.identifier or 0, bytes(code or 1 for code in got.codes)) if 0 in got.codes else None)
     for name, only in {"one": "subscribe-granted-0", "some": "subscribe-mixed-up", "many": "subscribe-60"}.items():
         yield Plant(f"B05-{name}", "B05", only, more)
+    denied: Change = on(Type.UNSUBACK, lambda got, _: codes(
+        Type.UNSUBACK, got.identifier or 0, bytes(code or NO_SUBSCRIPTION for code in got.codes)) if 0 in got.codes else None)
+    for name, only in {"one": "subscribe-1", "some": "subscribe-2", "many": "subscribe-60"}.items():
+        yield Plant(f"B06-{name}", "B06", only, denied)
+    yield Plant("B06-resumed", "B06", "unsubscribe-resumed", resumed(denied))
+    deleted: Change = on(Type.UNSUBACK, lambda got, _: codes(
+        Type.UNSUBACK, got.identifier or 0, bytes(len(got.codes))) if NO_SUBSCRIPTION in got.codes else None)
+    yield Plant("B07-some", "B07", "subscribe-again", deleted)
+    yield Plant("B07-resumed", "B07", "unsubscribe-resumed", resumed(deleted))
     yield Plant("C24", "C24", "connect-plain", when(is_of("connect-plain"), on(Type.CONNACK, gone)))
     yield Plant("A03", "A03", "auth-method-alone", on(Type.CONNACK, lambda got, _: reconnack(
         got, without=Prop.AUTHENTICATION_METHOD)))

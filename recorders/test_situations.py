@@ -22,7 +22,7 @@ from exercising.client_verbs import HOSTS
 from exercising.client_verbs import NEEDS as CLIENT_NEEDS
 from exercising.evidence import CLOSE, OPEN, RECV, REST, SENT, Evidence, binding, events_of, read
 from exercising.outcome import Outcome
-from exercising.packets import PING, PONG, Prop, Type, acknowledgement, codes, connack, connect, packet, publish, subscribe
+from exercising.packets import PING, PONG, Prop, Type, acknowledgement, codes, connack, connect, packet, publish, subscribe, unsubscribe
 from exercising.running import Fate, Result
 from exercising.situations import (
     PLAIN,
@@ -157,6 +157,37 @@ class Readings(unittest.TestCase):
             found = read(log_of(*asked, (SENT, codes(Type.SUBACK, 1, answer))), is_of_all=True)
             self.assertEqual([place.position for place in found.places if place.code == "B05"], wanted)
         self.assertNotIn("B05", read(log_of(*asked, (SENT, codes(Type.SUBACK, 1, b"\0\2")))).tested)
+
+    def test_what_an_unsuback_says(self) -> None:
+        """Of filters that are subscribed, and of others, by what answered the last SUBSCRIBE before."""
+        asked, granted = (RECV, subscribe(1, [("a", 0)])), (SENT, codes(Type.SUBACK, 1, b"\0"))
+        ends, wrong = (RECV, unsubscribe(2, ["a"])), (RECV, packet(Type.UNSUBSCRIBE, b"\0\3\0\0\2a#"))
+        later = [(OPEN, b""), (RECV, connect("a", False, [(Prop.SESSION_EXPIRY, 300)])), (SENT, connack(True))]
+        logs: list[tuple[list[Record], bytes, set[str]]] = [
+            ([asked, granted, ends], b"\x11", {"B06"}), ([asked, granted, ends], b"\0", {"B06", "B07"}),
+            ([asked, granted, ends], b"\x87", set()), ([asked, granted, ends], b"", set()), ([ends], b"\x11", {"B07"}), ([ends], b"\0", {"B07"}),
+            ([asked, ends, granted], b"\0", {"B07"}), ([asked, ends], b"\x11", set()),
+            ([asked, (SENT, codes(Type.SUBACK, 1, b"\x87")), ends], b"\x11", {"B07"}),
+            ([asked, asked, (SENT, codes(Type.SUBACK, 1, b"\x87")), ends], b"\x11", set()),
+            ([asked, granted, ends, asked], b"\x11", set()), ([asked, granted, (RECV, unsubscribe(3, ["a"])), ends], b"\x11", set()),
+            ([asked, granted, (RECV, unsubscribe(2, ["a", "a"]))], b"\x87\x11", set()),
+            ([asked, granted, wrong, ends], b"\0", set()), ([asked, granted, (CLOSE, b""), *later, ends], b"\x11", {"B06"}),
+            ([asked, granted, (CLOSE, b""), *later[:2], wrong, (CLOSE, b""), *later, ends], b"\x11", set()),
+            ([asked, granted, (CLOSE, b""), *opened(), ends], b"\x11", {"B07"}),
+        ]
+        for events, answer, wanted in logs:
+            log = log_of(*opened(), *events, (SENT, codes(Type.UNSUBACK, 2, answer)))
+            bad = {at: "W15" for at, (_, body) in enumerate([*opened(), *events], 1) if body == wrong[1]}
+            places = [place for place in read(log, bad, is_of_all=True).places if place.code in ("B06", "B07")]
+            self.assertEqual({place.code for place in places}, wanted, (events, answer))
+            self.assertEqual({place.position for place in places}, {len(opened()) + len(events) + 1} if wanted else set())
+            self.assertFalse(read(log, bad).tested & {"B06", "B07"})
+        early = [opened()[0], opened()[1], ends, (SENT, codes(Type.UNSUBACK, 2, b"\0"))]
+        for connack_, wanted in {opened()[2]: [4], (SENT, packet(Type.CONNACK, b"\0\x87\0")): []}.items():
+            found = read(log_of(*early, connack_), is_of_all=True).places
+            self.assertEqual([place.position for place in found if place.code == "B07"], wanted)
+            self.assertEqual(["never-subscribed" in tags for tags in tags_at(read(log_of(*early, connack_), is_of_all=True), "B07")],
+                             [True] * len(wanted))
 
     def test_after_a_second_connect(self) -> None:
         again = [(OPEN, b""), (RECV, connect("a", True)), (SENT, connack()), (RECV, connect("a", True))]

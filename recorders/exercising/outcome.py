@@ -24,6 +24,8 @@ WHY_NOT = {  # what a broker didn't do, where a statement isn't tested
     "A02": "it sent no AUTH",
     "A03": "it sent no AUTH to who has an Authentication Method, and accepted none such",
     "B05": "it granted nothing",
+    "B06": "it said of no filter that was subscribed that it is deleted, or isn't there",
+    "B07": "it said of no filter that it is deleted, and of none that was never subscribed that it isn't there",
     "C10": "it assigned no Client Identifier",
     "C11": "it sent no DISCONNECT",
     "C12": "it never refused a connection",

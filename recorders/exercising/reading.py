@@ -8,6 +8,7 @@ from dataclasses import dataclass, field
 from exercising.evidence import CLOSE, OPEN, RECV, REST, SENT, Event, Place, of_bytes, tags_of
 from exercising.errors import MOST_QOS, is_error, sets_alias
 from exercising.packets import RESERVED, Packet, Prop, Type
+from exercising.subscribed import Subscribed
 
 CAUSES = {Type.PUBREL: "E4", Type.SUBSCRIBE: "E5", Type.UNSUBSCRIBE: "E6"}  # the other three depend on more
 ANSWERS = {Type.PUBACK: "E1", Type.PUBREC: "E2", Type.PUBREL: "E3", Type.PUBCOMP: "E4", Type.SUBACK: "E5",
@@ -91,6 +92,7 @@ class Connection:
     is_settled: bool = False  # it is answered, or may have been the last that the server looked at
     awaits_auth: bool = False  # the server sent an AUTH, and received none after it
     aliases: dict[int, bytes] = field(default_factory=dict)
+    held: list[Event] = field(default_factory=list)  # before the CONNACK: in which session they are isn't known yet
 
     @property
     def is_accepted(self) -> bool:
@@ -117,6 +119,7 @@ class Reading:
         self.waiting_filters: dict[int, list[int]] = {}  # places in the list, of SUBSCRIBEs without a SUBACK
         self.history: set[str] = set()  # tags of what happened in the session
         self.is_shared = False
+        self.subscribed = Subscribed()
         self.is_alive = False  # a session is
         self.is_disturbed = False
         self.maximum_before = self.last_maximum = DEFAULT_MAXIMUM  # Receive Maximum of the session's connections
@@ -172,6 +175,23 @@ class Reading:
         if self.is_server:
             self._after_connect(event)
             self._after_error(event)
+            self._on_subscriptions(event)
+
+    def _on_subscriptions(self, event: Event) -> None:
+        """B06 and B07: what a server says of the filters that are unsubscribed."""
+        here = self.here
+        here.held.append(event)
+        if here.connack is None and event.kind != CLOSE:
+            return
+        held, here.held = here.held, []
+        if not here.is_accepted:
+            self.subscribed.pass_over(held)
+            return
+        for one in held:
+            for code, tags in self.subscribed.take(one).items():
+                self.place(code, more=tags | (tags_of(one.packet) if one.packet is not None else set()), at=one.position)
+        if event.kind == CLOSE:
+            self.subscribed.leave()
 
     def _after_connect(self, event: Event) -> None:
         """C24: a server answers the first CONNECT by a CONNACK, or is at rest."""
@@ -511,6 +531,7 @@ class Reading:
             self.filters.clear()
             self.waiting_filters.clear()
             self.history.clear()
+            self.subscribed = Subscribed()
             self.taken, self.is_shared, self.is_disturbed = 0, False, False
         self.left_tags = {message.position: message.tags for message in here.left}
         self.maximum_before = self.last_maximum

@@ -52,6 +52,8 @@ WORDS = (  # of statements: what the event is, with its numbers; and what is sai
     ("B02", "QoS {0}, at most {1} granted", ""),
     ("B03 B04", "{0} filters, {1} Reason Codes", ""),
     ("B05", "the SUBSCRIBE, which asks for less", ""),
+    ("B06", "the UNSUBSCRIBE, for a filter that was subscribed", ""),
+    ("B07", "the UNSUBSCRIBE, for a filter that was never subscribed", ""),
     ("F01", "the CONNACK, with Retain Available 0", ""),
     ("F02", "the CONNACK, with Wildcard Subscription Available 0", ""),
     ("F03", "the CONNACK, with Subscription Identifier Available 0", ""),

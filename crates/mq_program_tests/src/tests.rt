@@ -5,3 +5,4 @@ mod coverage;
 mod programs;
 mod times;
 mod troubles;
+mod unsubscribing;

@@ -4,10 +4,10 @@
 ghost use Rattle.std.specs.Prelude.{◌≡◌, ◌∷◌, [], true, false, Some, None};
 ghost use Rattle.mq_packet.specs.declared.packet.Qos.TheVariants as quality;
 ghost use Rattle.mq_packet.specs.declared.rule.PacketRule.TheVariants as packets;
-ghost use Rattle.mq_rules.specs.declared.rule.Rule.TheVariants.{W01, W02, W03, W04, W05, W06, W07, W08, W09, W10, W11, W12, W13, W14, W15, W16, W17, W18, W19, W20, W21, C01, C02, C03, C04, C05, C06, C07, C08, C09, C10, C11, C12, C13, C14, C15, C16, C17, C18, C19, C20, C21, C22, C23, S01, S02, S03, S04, S05, S06, S07, E1A, E1R, E1O, E2A, E2R, E2O, E3A, E3R, E3O, E4A, E4R, E5A, E5R, E6A, E6R, E7R, L1, L2, L3, B01, B02, B03, B04, B05, F01, F02, F03, F04, F05, F06, V03, V04, V06, C24, D01, D02, D03, D05, A01, A02, A03};
+ghost use Rattle.mq_rules.specs.declared.rule.Rule.TheVariants.{W01, W02, W03, W04, W05, W06, W07, W08, W09, W10, W11, W12, W13, W14, W15, W16, W17, W18, W19, W20, W21, C01, C02, C03, C04, C05, C06, C07, C08, C09, C10, C11, C12, C13, C14, C15, C16, C17, C18, C19, C20, C21, C22, C23, S01, S02, S03, S04, S05, S06, S07, E1A, E1R, E1O, E2A, E2R, E2O, E3A, E3R, E3O, E4A, E4R, E5A, E5R, E6A, E6R, E7R, L1, L2, L3, B01, B02, B03, B04, B05, B06, B07, F01, F02, F03, F04, F05, F06, V03, V04, V06, C24, D01, D02, D03, D05, A01, A02, A03};
 ghost use Rattle.mq_rules.specs.declared.note.Note.TheVariants.{Open, Rest, Release};
-ghost use Rattle.mq_rules.specs.declared.packet_note.PacketFields.TheVariants.{Puback, Pubrec, Pubrel, Pubcomp, Suback, Unsubscribe, Unsuback, Pingreq, Pingresp};
-ghost use Rattle.mq_rules.specs.Worked.{client, client_unrecorded, server, failing, Close, Cut, sends, gets, sends_sized, sends_explained, sends_bad, gets_bad, sends_lost, gets_lost, lasting, again, fleeting, unnamed, asking, connack_with, accepting, resuming, refusing, limiting, retaining, assigning, informing, leaving, at_most_once, once, exactly, retained_once, retained_exactly, expiring, aliased, subscribed, asks_a, asks_b, asks_both, asking_again, client_asked, server_asked, with_will, with_method, announcing, naming_method, naming_other, auth_alone, auth_by, one_method, other_method, lacking, leaving_by, retained_at_most_once, retained_again, asks_plainly, asks_widely, asks_identified, asks_to_share, asks_misnamed, asks_no_local};
+ghost use Rattle.mq_rules.specs.declared.packet_note.PacketFields.TheVariants.{Puback, Pubrec, Pubrel, Pubcomp, Suback, Unsuback, Pingreq, Pingresp};
+ghost use Rattle.mq_rules.specs.Worked.{client, client_unrecorded, server, failing, Close, Cut, sends, gets, sends_sized, sends_explained, sends_bad, gets_bad, sends_lost, gets_lost, lasting, again, fleeting, unnamed, asking, connack_with, accepting, resuming, refusing, limiting, retaining, assigning, informing, leaving, at_most_once, once, exactly, retained_once, retained_exactly, expiring, aliased, subscribed, asks_a, asks_b, asks_both, asks_twice, removes_a, removes_b, removes_both, removes_twice, asking_again, client_asked, server_asked, with_will, with_method, announcing, naming_method, naming_other, auth_alone, auth_by, one_method, other_method, lacking, leaving_by, retained_at_most_once, retained_again, asks_plainly, asks_widely, asks_identified, asks_to_share, asks_misnamed, asks_no_local};
 
 /// Bytes of a client that break a rule, and those that it receives (W01 to W21).
 pub fn bytes_of_a_client()
@@ -314,10 +314,10 @@ pub fn subacks()
 
 /// UNSUBACKs and what they answer (E6A, E6R).
 pub fn unsubacks()
-    ensures server_answer_breaks { failing server E6A (Open ∷ gets lasting ∷ sends accepting ∷ sends (Unsuback 1 1) ∷ []) ≡ 4 ∷ [] }
-    ensures server_answer_keeps { failing server E6A (Open ∷ gets lasting ∷ sends accepting ∷ gets (Unsubscribe 1 1) ∷ sends (Unsuback 1 1) ∷ []) ≡ [] }
-    ensures server_owes { failing server E6R (Open ∷ gets lasting ∷ sends accepting ∷ gets (Unsubscribe 1 1) ∷ Rest ∷ []) ≡ 4 ∷ [] }
-    ensures server_paid { failing server E6R (Open ∷ gets lasting ∷ sends accepting ∷ gets (Unsubscribe 1 1) ∷ sends (Unsuback 1 1) ∷ Rest ∷ []) ≡ [] }
+    ensures server_answer_breaks { failing server E6A (Open ∷ gets lasting ∷ sends accepting ∷ sends (Unsuback 1 (0 ∷ [])) ∷ []) ≡ 4 ∷ [] }
+    ensures server_answer_keeps { failing server E6A (Open ∷ gets lasting ∷ sends accepting ∷ gets (removes_a 1) ∷ sends (Unsuback 1 (0 ∷ [])) ∷ []) ≡ [] }
+    ensures server_owes { failing server E6R (Open ∷ gets lasting ∷ sends accepting ∷ gets (removes_a 1) ∷ Rest ∷ []) ≡ 4 ∷ [] }
+    ensures server_paid { failing server E6R (Open ∷ gets lasting ∷ sends accepting ∷ gets (removes_a 1) ∷ sends (Unsuback 1 (0 ∷ [])) ∷ Rest ∷ []) ≡ [] }
 {}
 
 /// PINGRESPs and the PINGREQs that they answer (E7R).
@@ -357,8 +357,8 @@ pub fn subscriptions()
     ensures granted_breaks { failing server B02 (Open ∷ gets lasting ∷ sends accepting ∷ gets (asks_a 1 1) ∷ sends (Suback 1 (0 ∷ [])) ∷ sends (once false 1) ∷ []) ≡ 6 ∷ [] }
     ensures suback_breaks { failing server B03 (Open ∷ gets lasting ∷ sends accepting ∷ gets (asks_a 1 0) ∷ sends (Suback 1 (0 ∷ 0 ∷ [])) ∷ []) ≡ 5 ∷ [] }
     ensures suback_keeps { failing server B03 (Open ∷ gets lasting ∷ sends accepting ∷ gets (asks_a 1 0) ∷ sends (Suback 1 (0 ∷ [])) ∷ []) ≡ [] }
-    ensures unsuback_breaks { failing server B04 (Open ∷ gets lasting ∷ sends accepting ∷ gets (Unsubscribe 1 1) ∷ sends (Unsuback 1 2) ∷ []) ≡ 5 ∷ [] }
-    ensures unsuback_keeps { failing server B04 (Open ∷ gets lasting ∷ sends accepting ∷ gets (Unsubscribe 1 1) ∷ sends (Unsuback 1 1) ∷ []) ≡ [] }
+    ensures unsuback_breaks { failing server B04 (Open ∷ gets lasting ∷ sends accepting ∷ gets (removes_a 1) ∷ sends (Unsuback 1 (0 ∷ 0 ∷ [])) ∷ []) ≡ 5 ∷ [] }
+    ensures unsuback_keeps { failing server B04 (Open ∷ gets lasting ∷ sends accepting ∷ gets (removes_a 1) ∷ sends (Unsuback 1 (0 ∷ [])) ∷ []) ≡ [] }
 {}
 
 /// What a SUBACK grants (B05).
@@ -381,6 +381,102 @@ pub fn granted_qos()
     ensures turned_away_keeps { failing server_asked B05 (Open ∷ gets lasting ∷ gets (asks_a 1 0) ∷ sends (Suback 1 (1 ∷ [])) ∷ sends refusing ∷ []) ≡ [] }
     ensures unasked_keeps { failing server B05 (Open ∷ gets lasting ∷ sends accepting ∷ gets (asks_a 1 0) ∷ sends (Suback 1 (1 ∷ [])) ∷ []) ≡ [] }
     ensures client_keeps { failing client_asked B05 (Open ∷ sends lasting ∷ gets accepting ∷ gets (asks_a 1 0) ∷ sends (Suback 1 (1 ∷ [])) ∷ []) ≡ [] }
+{}
+
+/// What an UNSUBACK says of filters (B06 and B07).
+pub fn unsubscribed()
+    ensures denied_breaks { failing server_asked B06 (Open ∷ gets lasting ∷ sends accepting ∷ gets (asks_a 1 0) ∷ sends (Suback 1 (0 ∷ [])) ∷ gets (removes_a 2) ∷ sends (Unsuback 2 (17 ∷ [])) ∷ []) ≡ 7 ∷ [] }
+    ensures removed_keeps { failing server_asked B06 (Open ∷ gets lasting ∷ sends accepting ∷ gets (asks_a 1 0) ∷ sends (Suback 1 (0 ∷ [])) ∷ gets (removes_a 2) ∷ sends (Unsuback 2 (0 ∷ [])) ∷ []) ≡ [] }
+    ensures unanswered_keeps { failing server_asked B06 (Open ∷ gets lasting ∷ sends accepting ∷ gets (asks_a 1 0) ∷ gets (removes_a 2) ∷ sends (Unsuback 2 (17 ∷ [])) ∷ []) ≡ [] }
+    ensures answered_after_keeps { failing server_asked B06 (Open ∷ gets lasting ∷ sends accepting ∷ gets (asks_a 1 0) ∷ gets (removes_a 2) ∷ sends (Suback 1 (0 ∷ [])) ∷ sends (Unsuback 2 (17 ∷ [])) ∷ []) ≡ [] }
+    ensures refused_keeps { failing server_asked B06 (Open ∷ gets lasting ∷ sends accepting ∷ gets (asks_a 1 0) ∷ sends (Suback 1 (135 ∷ [])) ∷ gets (removes_a 2) ∷ sends (Unsuback 2 (17 ∷ [])) ∷ []) ≡ [] }
+    ensures removed_before_keeps { failing server_asked B06 (Open ∷ gets lasting ∷ sends accepting ∷ gets (asks_a 1 0) ∷ sends (Suback 1 (0 ∷ [])) ∷ gets (removes_a 2) ∷ sends (Unsuback 2 (0 ∷ [])) ∷ gets (removes_a 3) ∷ sends (Unsuback 3 (17 ∷ [])) ∷ []) ≡ [] }
+    ensures asked_to_remove_before_keeps { failing server_asked B06 (Open ∷ gets lasting ∷ sends accepting ∷ gets (asks_a 1 0) ∷ sends (Suback 1 (0 ∷ [])) ∷ gets (removes_a 2) ∷ gets (removes_a 3) ∷ sends (Unsuback 3 (17 ∷ [])) ∷ []) ≡ [] }
+    ensures subscribed_again_breaks { failing server_asked B06 (Open ∷ gets lasting ∷ sends accepting ∷ gets (asks_a 1 0) ∷ sends (Suback 1 (0 ∷ [])) ∷ gets (removes_a 2) ∷ sends (Unsuback 2 (0 ∷ [])) ∷ gets (asks_a 3 0) ∷ sends (Suback 3 (0 ∷ [])) ∷ gets (removes_a 4) ∷ sends (Unsuback 4 (17 ∷ [])) ∷ []) ≡ 11 ∷ [] }
+    ensures asked_again_keeps { failing server_asked B06 (Open ∷ gets lasting ∷ sends accepting ∷ gets (asks_a 1 0) ∷ sends (Suback 1 (0 ∷ [])) ∷ gets (asks_a 2 0) ∷ gets (removes_a 3) ∷ sends (Unsuback 3 (17 ∷ [])) ∷ []) ≡ [] }
+    ensures twice_keeps { failing server_asked B06 (Open ∷ gets lasting ∷ sends accepting ∷ gets (asks_a 1 0) ∷ sends (Suback 1 (0 ∷ [])) ∷ gets (removes_twice 2) ∷ sends (Unsuback 2 (0 ∷ 17 ∷ [])) ∷ []) ≡ [] }
+    ensures twice_breaks { failing server_asked B06 (Open ∷ gets lasting ∷ sends accepting ∷ gets (asks_a 1 0) ∷ sends (Suback 1 (0 ∷ [])) ∷ gets (removes_twice 2) ∷ sends (Unsuback 2 (17 ∷ 17 ∷ [])) ∷ []) ≡ 7 ∷ [] }
+    ensures twice_exchanged_breaks { failing server_asked B06 (Open ∷ gets lasting ∷ sends accepting ∷ gets (asks_a 1 0) ∷ sends (Suback 1 (0 ∷ [])) ∷ gets (removes_twice 2) ∷ sends (Unsuback 2 (17 ∷ 0 ∷ [])) ∷ []) ≡ 7 ∷ [] }
+    ensures last_code_breaks { failing server_asked B06 (Open ∷ gets lasting ∷ sends accepting ∷ gets (asks_twice 1) ∷ sends (Suback 1 (135 ∷ 0 ∷ [])) ∷ gets (removes_a 2) ∷ sends (Unsuback 2 (17 ∷ [])) ∷ []) ≡ 7 ∷ [] }
+    ensures last_code_keeps { failing server_asked B06 (Open ∷ gets lasting ∷ sends accepting ∷ gets (asks_twice 1) ∷ sends (Suback 1 (0 ∷ 135 ∷ [])) ∷ gets (removes_a 2) ∷ sends (Unsuback 2 (17 ∷ [])) ∷ []) ≡ [] }
+    ensures only_code_breaks { failing server_asked B06 (Open ∷ gets lasting ∷ sends accepting ∷ gets (asks_twice 1) ∷ sends (Suback 1 (0 ∷ [])) ∷ gets (removes_a 2) ∷ sends (Unsuback 2 (17 ∷ [])) ∷ []) ≡ 7 ∷ [] }
+    ensures other_filter_keeps { failing server_asked B06 (Open ∷ gets lasting ∷ sends accepting ∷ gets (asks_b 1 0) ∷ sends (Suback 1 (0 ∷ [])) ∷ gets (removes_a 2) ∷ sends (Unsuback 2 (17 ∷ [])) ∷ []) ≡ [] }
+    ensures second_breaks { failing server_asked B06 (Open ∷ gets lasting ∷ sends accepting ∷ gets (asks_b 1 0) ∷ sends (Suback 1 (0 ∷ [])) ∷ gets (removes_both 2) ∷ sends (Unsuback 2 (17 ∷ 17 ∷ [])) ∷ []) ≡ 7 ∷ [] }
+    ensures second_keeps { failing server_asked B06 (Open ∷ gets lasting ∷ sends accepting ∷ gets (asks_b 1 0) ∷ sends (Suback 1 (0 ∷ [])) ∷ gets (removes_both 2) ∷ sends (Unsuback 2 (17 ∷ 0 ∷ [])) ∷ []) ≡ [] }
+    ensures few_codes_keep { failing server_asked B06 (Open ∷ gets lasting ∷ sends accepting ∷ gets (asks_b 1 0) ∷ sends (Suback 1 (0 ∷ [])) ∷ gets (removes_both 2) ∷ sends (Unsuback 2 (17 ∷ [])) ∷ []) ≡ [] }
+    ensures many_codes_keep { failing server_asked B06 (Open ∷ gets lasting ∷ sends accepting ∷ gets (asks_a 1 0) ∷ sends (Suback 1 (0 ∷ [])) ∷ gets (removes_a 2) ∷ sends (Unsuback 2 (0 ∷ 17 ∷ [])) ∷ []) ≡ [] }
+    ensures failed_keeps { failing server_asked B06 (Open ∷ gets lasting ∷ sends accepting ∷ gets (asks_a 1 0) ∷ sends (Suback 1 (0 ∷ [])) ∷ gets (removes_a 2) ∷ sends (Unsuback 2 (128 ∷ [])) ∷ []) ≡ [] }
+    ensures other_identifier_keeps { failing server_asked B06 (Open ∷ gets lasting ∷ sends accepting ∷ gets (asks_a 1 0) ∷ sends (Suback 1 (0 ∷ [])) ∷ gets (removes_a 2) ∷ sends (Unsuback 3 (17 ∷ [])) ∷ []) ≡ [] }
+    ensures first_request_keeps { failing server_asked B06 (Open ∷ gets lasting ∷ sends accepting ∷ gets (asks_a 1 0) ∷ sends (Suback 1 (0 ∷ [])) ∷ gets (removes_b 2) ∷ gets (removes_a 2) ∷ sends (Unsuback 2 (17 ∷ [])) ∷ []) ≡ [] }
+    ensures next_request_breaks { failing server_asked B06 (Open ∷ gets lasting ∷ sends accepting ∷ gets (asks_a 1 0) ∷ sends (Suback 1 (0 ∷ [])) ∷ gets (removes_b 2) ∷ sends (Unsuback 2 (17 ∷ [])) ∷ gets (removes_a 2) ∷ sends (Unsuback 2 (17 ∷ [])) ∷ []) ≡ 9 ∷ [] }
+    ensures new_session_keeps { failing server_asked B06 (Open ∷ gets lasting ∷ sends accepting ∷ gets (asks_a 1 0) ∷ sends (Suback 1 (0 ∷ [])) ∷ Close ∷ Open ∷ gets lasting ∷ sends accepting ∷ gets (removes_a 2) ∷ sends (Unsuback 2 (17 ∷ [])) ∷ []) ≡ [] }
+    ensures resumed_breaks { failing server_asked B06 (Open ∷ gets lasting ∷ sends accepting ∷ gets (asks_a 1 0) ∷ sends (Suback 1 (0 ∷ [])) ∷ Close ∷ Open ∷ gets again ∷ sends resuming ∷ gets (removes_a 2) ∷ sends (Unsuback 2 (17 ∷ [])) ∷ []) ≡ 11 ∷ [] }
+    ensures later_keeps { failing server_asked B06 (Open ∷ gets lasting ∷ sends accepting ∷ gets (asks_a 1 0) ∷ sends (Suback 1 (0 ∷ [])) ∷ gets (removes_a 2) ∷ Close ∷ Open ∷ gets again ∷ sends resuming ∷ sends (Unsuback 2 (17 ∷ [])) ∷ []) ≡ [] }
+    ensures disturbed_keeps { failing server_asked B06 (Open ∷ gets lasting ∷ sends accepting ∷ gets (asks_a 1 0) ∷ sends (Suback 1 (0 ∷ [])) ∷ Close ∷ Open ∷ gets again ∷ gets (removes_a 2) ∷ Close ∷ Open ∷ gets again ∷ sends resuming ∷ gets (removes_a 3) ∷ sends (Unsuback 3 (17 ∷ [])) ∷ []) ≡ [] }
+    ensures early_breaks { failing server_asked B06 (Open ∷ gets lasting ∷ gets (asks_a 1 0) ∷ sends (Suback 1 (0 ∷ [])) ∷ gets (removes_a 2) ∷ sends (Unsuback 2 (17 ∷ [])) ∷ sends accepting ∷ []) ≡ 6 ∷ [] }
+    ensures turned_away_keeps { failing server_asked B06 (Open ∷ gets lasting ∷ gets (asks_a 1 0) ∷ sends (Suback 1 (0 ∷ [])) ∷ gets (removes_a 2) ∷ sends (Unsuback 2 (17 ∷ [])) ∷ sends refusing ∷ []) ≡ [] }
+    ensures void_keeps { failing server_asked B06 (Open ∷ gets lasting ∷ gets (asks_a 1 0) ∷ sends (Suback 1 (0 ∷ [])) ∷ sends refusing ∷ Close ∷ Open ∷ gets again ∷ sends resuming ∷ gets (removes_a 2) ∷ sends (Unsuback 2 (17 ∷ [])) ∷ []) ≡ [] }
+    ensures bad_subscribe_keeps { failing server_asked B06 (Open ∷ gets lasting ∷ sends accepting ∷ gets (asks_a 1 0) ∷ sends (Suback 1 (0 ∷ [])) ∷ gets_bad 130 packets.W15 ∷ gets (removes_a 2) ∷ sends (Unsuback 2 (17 ∷ [])) ∷ []) ≡ [] }
+    ensures bad_unsubscribe_keeps { failing server_asked B06 (Open ∷ gets lasting ∷ sends accepting ∷ gets (asks_a 1 0) ∷ sends (Suback 1 (0 ∷ [])) ∷ gets_bad 162 packets.W15 ∷ gets (removes_a 2) ∷ sends (Unsuback 2 (17 ∷ [])) ∷ []) ≡ [] }
+    ensures lost_keeps { failing server_asked B06 (Open ∷ gets lasting ∷ sends accepting ∷ gets (asks_a 1 0) ∷ sends (Suback 1 (0 ∷ [])) ∷ gets (removes_a 2) ∷ gets_lost ∷ sends (Unsuback 2 (17 ∷ [])) ∷ []) ≡ [] }
+    ensures bad_publish_breaks { failing server_asked B06 (Open ∷ gets lasting ∷ sends accepting ∷ gets (asks_a 1 0) ∷ sends (Suback 1 (0 ∷ [])) ∷ gets_bad 48 packets.W14 ∷ gets (removes_a 2) ∷ sends (Unsuback 2 (17 ∷ [])) ∷ []) ≡ 8 ∷ [] }
+    ensures bad_after_breaks { failing server_asked B06 (Open ∷ gets lasting ∷ sends accepting ∷ gets (asks_a 1 0) ∷ sends (Suback 1 (0 ∷ [])) ∷ gets (removes_a 2) ∷ sends (Unsuback 2 (17 ∷ [])) ∷ gets_bad 162 packets.W15 ∷ []) ≡ 7 ∷ [] }
+    ensures bad_before_keeps { failing server_asked B06 (Open ∷ gets lasting ∷ sends accepting ∷ gets (asks_a 1 0) ∷ sends (Suback 1 (0 ∷ [])) ∷ gets_bad 162 packets.W15 ∷ Close ∷ Open ∷ gets again ∷ sends resuming ∷ gets (removes_a 2) ∷ sends (Unsuback 2 (17 ∷ [])) ∷ []) ≡ [] }
+    ensures bad_session_before_breaks { failing server_asked B06 (Open ∷ gets lasting ∷ sends accepting ∷ gets_bad 162 packets.W15 ∷ Close ∷ Open ∷ gets lasting ∷ sends accepting ∷ gets (asks_a 1 0) ∷ sends (Suback 1 (0 ∷ [])) ∷ gets (removes_a 2) ∷ sends (Unsuback 2 (17 ∷ [])) ∷ []) ≡ 12 ∷ [] }
+    ensures lost_session_before_breaks { failing server_asked B06 (Open ∷ gets lasting ∷ sends accepting ∷ gets_lost ∷ Close ∷ Open ∷ gets lasting ∷ sends accepting ∷ gets (asks_a 1 0) ∷ sends (Suback 1 (0 ∷ [])) ∷ gets (removes_a 2) ∷ sends (Unsuback 2 (17 ∷ [])) ∷ []) ≡ 12 ∷ [] }
+    ensures bad_void_keeps { failing server_asked B06 (Open ∷ gets lasting ∷ sends accepting ∷ gets (asks_a 1 0) ∷ sends (Suback 1 (0 ∷ [])) ∷ Close ∷ Open ∷ gets again ∷ gets_bad 162 packets.W15 ∷ Close ∷ Open ∷ gets again ∷ sends resuming ∷ gets (removes_a 2) ∷ sends (Unsuback 2 (17 ∷ [])) ∷ []) ≡ [] }
+    ensures lost_void_keeps { failing server_asked B06 (Open ∷ gets lasting ∷ sends accepting ∷ gets (asks_a 1 0) ∷ sends (Suback 1 (0 ∷ [])) ∷ Close ∷ Open ∷ gets again ∷ gets_lost ∷ Close ∷ Open ∷ gets again ∷ sends resuming ∷ gets (removes_a 2) ∷ sends (Unsuback 2 (17 ∷ [])) ∷ []) ≡ [] }
+    ensures bad_void_before_breaks { failing server_asked B06 (Open ∷ gets lasting ∷ gets_bad 162 packets.W15 ∷ Close ∷ Open ∷ gets lasting ∷ sends accepting ∷ gets (asks_a 1 0) ∷ sends (Suback 1 (0 ∷ [])) ∷ gets (removes_a 2) ∷ sends (Unsuback 2 (17 ∷ [])) ∷ []) ≡ 11 ∷ [] }
+    ensures overtaken_keeps { failing server_asked B06 (Open ∷ gets lasting ∷ sends accepting ∷ gets (asks_a 1 0) ∷ sends (Suback 1 (0 ∷ [])) ∷ gets (removes_a 2) ∷ gets (removes_a 3) ∷ sends (Unsuback 3 (0 ∷ [])) ∷ sends (Unsuback 2 (17 ∷ [])) ∷ []) ≡ [] }
+    ensures asked_between_keeps { failing server_asked B06 (Open ∷ gets lasting ∷ sends accepting ∷ gets (asks_a 1 0) ∷ sends (Suback 1 (0 ∷ [])) ∷ gets (removes_a 2) ∷ gets (asks_a 3 0) ∷ sends (Unsuback 2 (17 ∷ [])) ∷ []) ≡ [] }
+    ensures in_use_breaks { failing server_asked B06 (Open ∷ gets lasting ∷ sends accepting ∷ gets (asks_a 1 0) ∷ gets (asks_b 1 0) ∷ sends (Suback 1 (0 ∷ [])) ∷ gets (removes_a 2) ∷ sends (Unsuback 2 (17 ∷ [])) ∷ []) ≡ 8 ∷ [] }
+    ensures in_use_keeps { failing server_asked B06 (Open ∷ gets lasting ∷ sends accepting ∷ gets (asks_b 1 0) ∷ gets (asks_a 1 0) ∷ sends (Suback 1 (0 ∷ [])) ∷ sends (Suback 1 (145 ∷ [])) ∷ gets (removes_a 2) ∷ sends (Unsuback 2 (17 ∷ [])) ∷ []) ≡ [] }
+    ensures unasked_keeps { failing server B06 (Open ∷ gets lasting ∷ sends accepting ∷ gets (asks_a 1 0) ∷ sends (Suback 1 (0 ∷ [])) ∷ gets (removes_a 2) ∷ sends (Unsuback 2 (17 ∷ [])) ∷ []) ≡ [] }
+    ensures client_keeps { failing client_asked B06 (Open ∷ sends lasting ∷ gets accepting ∷ gets (asks_a 1 0) ∷ sends (Suback 1 (0 ∷ [])) ∷ gets (removes_a 2) ∷ sends (Unsuback 2 (17 ∷ [])) ∷ []) ≡ [] }
+    ensures deleted_breaks { failing server_asked B07 (Open ∷ gets lasting ∷ sends accepting ∷ gets (removes_a 1) ∷ sends (Unsuback 1 (0 ∷ [])) ∷ []) ≡ 5 ∷ [] }
+    ensures denied_keeps { failing server_asked B07 (Open ∷ gets lasting ∷ sends accepting ∷ gets (removes_a 1) ∷ sends (Unsuback 1 (17 ∷ [])) ∷ []) ≡ [] }
+    ensures subscribed_keeps { failing server_asked B07 (Open ∷ gets lasting ∷ sends accepting ∷ gets (asks_a 1 0) ∷ sends (Suback 1 (0 ∷ [])) ∷ gets (removes_a 2) ∷ sends (Unsuback 2 (0 ∷ [])) ∷ []) ≡ [] }
+    ensures waiting_keeps { failing server_asked B07 (Open ∷ gets lasting ∷ sends accepting ∷ gets (asks_a 1 0) ∷ gets (removes_a 2) ∷ sends (Unsuback 2 (0 ∷ [])) ∷ []) ≡ [] }
+    ensures granted_after_keeps { failing server_asked B07 (Open ∷ gets lasting ∷ sends accepting ∷ gets (asks_a 1 0) ∷ gets (removes_a 2) ∷ sends (Suback 1 (0 ∷ [])) ∷ sends (Unsuback 2 (0 ∷ [])) ∷ []) ≡ [] }
+    ensures refused_breaks { failing server_asked B07 (Open ∷ gets lasting ∷ sends accepting ∷ gets (asks_a 1 0) ∷ sends (Suback 1 (135 ∷ [])) ∷ gets (removes_a 2) ∷ sends (Unsuback 2 (0 ∷ [])) ∷ []) ≡ 7 ∷ [] }
+    ensures refused_after_breaks { failing server_asked B07 (Open ∷ gets lasting ∷ sends accepting ∷ gets (asks_a 1 0) ∷ gets (removes_a 2) ∷ sends (Suback 1 (135 ∷ [])) ∷ sends (Unsuback 2 (0 ∷ [])) ∷ []) ≡ 7 ∷ [] }
+    ensures refused_late_keeps { failing server_asked B07 (Open ∷ gets lasting ∷ sends accepting ∷ gets (asks_a 1 0) ∷ gets (removes_a 2) ∷ sends (Unsuback 2 (0 ∷ [])) ∷ sends (Suback 1 (135 ∷ [])) ∷ []) ≡ [] }
+    ensures refused_again_keeps { failing server_asked B07 (Open ∷ gets lasting ∷ sends accepting ∷ gets (asks_a 1 0) ∷ sends (Suback 1 (0 ∷ [])) ∷ gets (asks_a 2 0) ∷ sends (Suback 2 (135 ∷ [])) ∷ gets (removes_a 3) ∷ sends (Unsuback 3 (0 ∷ [])) ∷ []) ≡ [] }
+    ensures deleted_again_keeps { failing server_asked B07 (Open ∷ gets lasting ∷ sends accepting ∷ gets (asks_a 1 0) ∷ sends (Suback 1 (0 ∷ [])) ∷ gets (removes_a 2) ∷ sends (Unsuback 2 (0 ∷ [])) ∷ gets (removes_a 3) ∷ sends (Unsuback 3 (0 ∷ [])) ∷ []) ≡ [] }
+    ensures deleted_twice_keeps { failing server_asked B07 (Open ∷ gets lasting ∷ sends accepting ∷ gets (asks_a 1 0) ∷ sends (Suback 1 (0 ∷ [])) ∷ gets (removes_twice 2) ∷ sends (Unsuback 2 (0 ∷ 0 ∷ [])) ∷ []) ≡ [] }
+    ensures denied_and_deleted_breaks { failing server_asked B07 (Open ∷ gets lasting ∷ sends accepting ∷ gets (removes_twice 1) ∷ sends (Unsuback 1 (17 ∷ 0 ∷ [])) ∷ []) ≡ 5 ∷ [] }
+    ensures granted_second_keeps { failing server_asked B07 (Open ∷ gets lasting ∷ sends accepting ∷ gets (asks_twice 1) ∷ sends (Suback 1 (135 ∷ 0 ∷ [])) ∷ gets (removes_a 2) ∷ sends (Unsuback 2 (0 ∷ [])) ∷ []) ≡ [] }
+    ensures granted_first_keeps { failing server_asked B07 (Open ∷ gets lasting ∷ sends accepting ∷ gets (asks_twice 1) ∷ sends (Suback 1 (0 ∷ 135 ∷ [])) ∷ gets (removes_a 2) ∷ sends (Unsuback 2 (0 ∷ [])) ∷ []) ≡ [] }
+    ensures refused_twice_breaks { failing server_asked B07 (Open ∷ gets lasting ∷ sends accepting ∷ gets (asks_twice 1) ∷ sends (Suback 1 (135 ∷ 135 ∷ [])) ∷ gets (removes_a 2) ∷ sends (Unsuback 2 (0 ∷ [])) ∷ []) ≡ 7 ∷ [] }
+    ensures other_filter_breaks { failing server_asked B07 (Open ∷ gets lasting ∷ sends accepting ∷ gets (asks_b 1 0) ∷ sends (Suback 1 (0 ∷ [])) ∷ gets (removes_a 2) ∷ sends (Unsuback 2 (0 ∷ [])) ∷ []) ≡ 7 ∷ [] }
+    ensures both_break { failing server_asked B07 (Open ∷ gets lasting ∷ sends accepting ∷ gets (asks_a 1 0) ∷ sends (Suback 1 (0 ∷ [])) ∷ gets (removes_both 2) ∷ sends (Unsuback 2 (0 ∷ 0 ∷ [])) ∷ []) ≡ 7 ∷ [] }
+    ensures in_order_keeps { failing server_asked B07 (Open ∷ gets lasting ∷ sends accepting ∷ gets (asks_a 1 0) ∷ sends (Suback 1 (0 ∷ [])) ∷ gets (removes_both 2) ∷ sends (Unsuback 2 (0 ∷ 17 ∷ [])) ∷ []) ≡ [] }
+    ensures exchanged_breaks { failing server_asked B07 (Open ∷ gets lasting ∷ sends accepting ∷ gets (asks_a 1 0) ∷ sends (Suback 1 (0 ∷ [])) ∷ gets (removes_both 2) ∷ sends (Unsuback 2 (17 ∷ 0 ∷ [])) ∷ []) ≡ 7 ∷ [] }
+    ensures too_few_codes_keep { failing server_asked B07 (Open ∷ gets lasting ∷ sends accepting ∷ gets (asks_a 1 0) ∷ sends (Suback 1 (0 ∷ [])) ∷ gets (removes_both 2) ∷ sends (Unsuback 2 (0 ∷ [])) ∷ []) ≡ [] }
+    ensures too_many_codes_keep { failing server_asked B07 (Open ∷ gets lasting ∷ sends accepting ∷ gets (removes_a 1) ∷ sends (Unsuback 1 (17 ∷ 0 ∷ [])) ∷ []) ≡ [] }
+    ensures answer_to_none_keeps { failing server_asked B07 (Open ∷ gets lasting ∷ sends accepting ∷ gets (removes_a 1) ∷ sends (Unsuback 2 (0 ∷ [])) ∷ []) ≡ [] }
+    ensures first_of_two_keeps { failing server_asked B07 (Open ∷ gets lasting ∷ sends accepting ∷ gets (asks_a 1 0) ∷ sends (Suback 1 (0 ∷ [])) ∷ gets (removes_a 2) ∷ gets (removes_b 2) ∷ sends (Unsuback 2 (0 ∷ [])) ∷ []) ≡ [] }
+    ensures subscribed_between_keeps { failing server_asked B07 (Open ∷ gets lasting ∷ sends accepting ∷ gets (removes_a 1) ∷ gets (asks_a 2 0) ∷ sends (Unsuback 1 (0 ∷ [])) ∷ []) ≡ [] }
+    ensures subscribed_after_breaks { failing server_asked B07 (Open ∷ gets lasting ∷ sends accepting ∷ gets (removes_a 1) ∷ sends (Unsuback 1 (0 ∷ [])) ∷ gets (asks_a 2 0) ∷ []) ≡ 5 ∷ [] }
+    ensures begun_anew_breaks { failing server_asked B07 (Open ∷ gets lasting ∷ sends accepting ∷ gets (asks_a 1 0) ∷ sends (Suback 1 (0 ∷ [])) ∷ Close ∷ Open ∷ gets lasting ∷ sends accepting ∷ gets (removes_a 2) ∷ sends (Unsuback 2 (0 ∷ [])) ∷ []) ≡ 11 ∷ [] }
+    ensures taken_up_keeps { failing server_asked B07 (Open ∷ gets lasting ∷ sends accepting ∷ gets (asks_a 1 0) ∷ sends (Suback 1 (0 ∷ [])) ∷ Close ∷ Open ∷ gets again ∷ sends resuming ∷ gets (removes_a 2) ∷ sends (Unsuback 2 (0 ∷ [])) ∷ []) ≡ [] }
+    ensures taken_up_breaks { failing server_asked B07 (Open ∷ gets lasting ∷ sends accepting ∷ Close ∷ Open ∷ gets again ∷ sends resuming ∷ gets (removes_a 2) ∷ sends (Unsuback 2 (0 ∷ [])) ∷ []) ≡ 9 ∷ [] }
+    ensures before_connack_breaks { failing server_asked B07 (Open ∷ gets lasting ∷ gets (removes_a 1) ∷ sends (Unsuback 1 (0 ∷ [])) ∷ sends accepting ∷ []) ≡ 4 ∷ [] }
+    ensures not_accepted_keeps { failing server_asked B07 (Open ∷ gets lasting ∷ gets (removes_a 1) ∷ sends (Unsuback 1 (0 ∷ [])) ∷ sends refusing ∷ []) ≡ [] }
+    ensures void_breaks { failing server_asked B07 (Open ∷ gets lasting ∷ gets (asks_a 1 0) ∷ sends (Suback 1 (0 ∷ [])) ∷ sends refusing ∷ Close ∷ Open ∷ gets again ∷ sends resuming ∷ gets (removes_a 2) ∷ sends (Unsuback 2 (0 ∷ [])) ∷ []) ≡ 11 ∷ [] }
+    ensures unreadable_keeps { failing server_asked B07 (Open ∷ gets lasting ∷ sends accepting ∷ gets_bad 130 packets.W15 ∷ gets (removes_a 2) ∷ sends (Unsuback 2 (0 ∷ [])) ∷ []) ≡ [] }
+    ensures unreadable_unsubscribe_keeps { failing server_asked B07 (Open ∷ gets lasting ∷ sends accepting ∷ gets_bad 162 packets.W15 ∷ gets (removes_a 2) ∷ sends (Unsuback 2 (0 ∷ [])) ∷ []) ≡ [] }
+    ensures unreadable_stream_keeps { failing server_asked B07 (Open ∷ gets lasting ∷ sends accepting ∷ gets (removes_a 1) ∷ gets_lost ∷ sends (Unsuback 1 (0 ∷ [])) ∷ []) ≡ [] }
+    ensures readable_breaks { failing server_asked B07 (Open ∷ gets lasting ∷ sends accepting ∷ gets_bad 48 packets.W14 ∷ gets (removes_a 2) ∷ sends (Unsuback 2 (0 ∷ [])) ∷ []) ≡ 6 ∷ [] }
+    ensures unreadable_after_breaks { failing server_asked B07 (Open ∷ gets lasting ∷ sends accepting ∷ gets (removes_a 2) ∷ sends (Unsuback 2 (0 ∷ [])) ∷ gets_bad 130 packets.W15 ∷ []) ≡ 5 ∷ [] }
+    ensures unreadable_earlier_keeps { failing server_asked B07 (Open ∷ gets lasting ∷ sends accepting ∷ gets_bad 130 packets.W15 ∷ Close ∷ Open ∷ gets again ∷ sends resuming ∷ gets (removes_a 2) ∷ sends (Unsuback 2 (0 ∷ [])) ∷ []) ≡ [] }
+    ensures unreadable_session_breaks { failing server_asked B07 (Open ∷ gets lasting ∷ sends accepting ∷ gets_bad 130 packets.W15 ∷ Close ∷ Open ∷ gets lasting ∷ sends accepting ∷ gets (removes_a 2) ∷ sends (Unsuback 2 (0 ∷ [])) ∷ []) ≡ 10 ∷ [] }
+    ensures unreadable_void_keeps { failing server_asked B07 (Open ∷ gets lasting ∷ sends accepting ∷ Close ∷ Open ∷ gets again ∷ gets_bad 130 packets.W15 ∷ Close ∷ Open ∷ gets again ∷ sends resuming ∷ gets (removes_a 2) ∷ sends (Unsuback 2 (0 ∷ [])) ∷ []) ≡ [] }
+    ensures unreadable_refused_keeps { failing server_asked B07 (Open ∷ gets lasting ∷ gets_bad 130 packets.W15 ∷ sends refusing ∷ Close ∷ Open ∷ gets again ∷ sends resuming ∷ gets (removes_a 2) ∷ sends (Unsuback 2 (0 ∷ [])) ∷ []) ≡ [] }
+    ensures in_use_refused_breaks { failing server_asked B07 (Open ∷ gets lasting ∷ sends accepting ∷ gets (asks_a 1 0) ∷ gets (asks_b 1 0) ∷ sends (Suback 1 (135 ∷ [])) ∷ gets (removes_a 2) ∷ sends (Unsuback 2 (0 ∷ [])) ∷ []) ≡ 8 ∷ [] }
+    ensures in_use_granted_keeps { failing server_asked B07 (Open ∷ gets lasting ∷ sends accepting ∷ gets (asks_b 1 0) ∷ gets (asks_a 1 0) ∷ sends (Suback 1 (135 ∷ [])) ∷ sends (Suback 1 (0 ∷ [])) ∷ gets (removes_a 2) ∷ sends (Unsuback 2 (0 ∷ [])) ∷ []) ≡ [] }
+    ensures not_asked_keeps { failing server B07 (Open ∷ gets lasting ∷ sends accepting ∷ gets (removes_a 2) ∷ sends (Unsuback 2 (0 ∷ [])) ∷ []) ≡ [] }
+    ensures of_client_keeps { failing client_asked B07 (Open ∷ sends lasting ∷ gets accepting ∷ gets (removes_a 2) ∷ sends (Unsuback 2 (0 ∷ [])) ∷ []) ≡ [] }
 {}
 
 /// Ends that a statement doesn't bind, and an end whose releases aren't recorded, in logs at which
@@ -497,7 +593,7 @@ pub fn after_a_protocol_error()
     ensures of_servers_breaks { failing server_asked D03 (Open ∷ gets lasting ∷ sends accepting ∷ gets Pingresp ∷ Rest ∷ []) ≡ 4 ∷ [] }
     ensures connack_breaks { failing server_asked D03 (Open ∷ gets lasting ∷ sends accepting ∷ gets accepting ∷ Rest ∷ []) ≡ 4 ∷ [] }
     ensures suback_breaks { failing server_asked D03 (Open ∷ gets lasting ∷ sends accepting ∷ gets (Suback 1 (0 ∷ [])) ∷ Rest ∷ []) ≡ 4 ∷ [] }
-    ensures unsuback_breaks { failing server_asked D03 (Open ∷ gets lasting ∷ sends accepting ∷ gets (Unsuback 1 1) ∷ Rest ∷ []) ≡ 4 ∷ [] }
+    ensures unsuback_breaks { failing server_asked D03 (Open ∷ gets lasting ∷ sends accepting ∷ gets (Unsuback 1 (0 ∷ [])) ∷ Rest ∷ []) ≡ 4 ∷ [] }
     ensures of_clients_keeps { failing server_asked D03 (Open ∷ gets lasting ∷ sends accepting ∷ gets Pingreq ∷ sends Pingresp ∷ Rest ∷ []) ≡ [] }
     ensures too_early_breaks { failing server_asked D03 (Open ∷ gets Pingreq ∷ gets lasting ∷ sends accepting ∷ Rest ∷ []) ≡ 2 ∷ [] }
     ensures after_bytes_keeps { failing server_asked D03 (Open ∷ gets_bad 16 packets.W13 ∷ gets Pingreq ∷ Rest ∷ []) ≡ [] }

@@ -4,10 +4,10 @@
 ghost use Rattle.std.specs.Prelude.{◌≡◌, ◌∷◌, [], true, false, Some, None};
 ghost use Rattle.mq_packet.specs.declared.rule.PacketRule.TheVariants as packets;
 ghost use Rattle.mq_packet.specs.declared.packet.Qos.TheVariants as quality;
-ghost use Rattle.mq_rules.specs.declared.rule.Rule.TheVariants.{C01, C02, C03, C04, C05, C06, C07, C08, C09, C10, C11, C12, C13, C14, C15, C16, C17, C18, C19, C20, C21, C22, C23, S01, S02, S03, S04, S05, S06, S07, E1A, E1R, E1O, E2A, E2R, E2O, E3A, E3R, E3O, E4A, E4R, E5A, E5R, E6A, E6R, E7R, L1, L2, L3, B01, B02, B03, B04, B05, F01, F02, F03, F04, F05, F06, V03, V04, V06, C24, D01, D02, D03, D05, A01, A02, A03};
+ghost use Rattle.mq_rules.specs.declared.rule.Rule.TheVariants.{C01, C02, C03, C04, C05, C06, C07, C08, C09, C10, C11, C12, C13, C14, C15, C16, C17, C18, C19, C20, C21, C22, C23, S01, S02, S03, S04, S05, S06, S07, E1A, E1R, E1O, E2A, E2R, E2O, E3A, E3R, E3O, E4A, E4R, E5A, E5R, E6A, E6R, E7R, L1, L2, L3, B01, B02, B03, B04, B05, B06, B07, F01, F02, F03, F04, F05, F06, V03, V04, V06, C24, D01, D02, D03, D05, A01, A02, A03};
 ghost use Rattle.mq_rules.specs.declared.note.Note.TheVariants.{Open, Rest, Release};
-ghost use Rattle.mq_rules.specs.declared.packet_note.PacketFields.TheVariants.{Puback, Pubrec, Pubrel, Pubcomp, Suback, Unsubscribe, Unsuback, Pingreq, Pingresp};
-ghost use Rattle.mq_rules.specs.Worked.{client, client_unrecorded, server, applying, Close, Cut, sends, gets, sends_sized, sends_bad, gets_bad, sends_lost, gets_lost, lasting, again, unnamed, asking, accepting, resuming, refusing, limiting, retaining, assigning, informing, leaving, at_most_once, once, exactly, retained_once, expiring, aliased, asks_a, asks_both, asks_shared, client_asked, server_asked, with_will, with_method, announcing, naming_method, auth_alone, auth_by, one_method, other_method, lacking, leaving_by, retained_at_most_once, retained_again, asks_plainly, asks_widely, asks_identified, asks_to_share, subscribed, fleeting};
+ghost use Rattle.mq_rules.specs.declared.packet_note.PacketFields.TheVariants.{Puback, Pubrec, Pubrel, Pubcomp, Suback, Unsuback, Pingreq, Pingresp};
+ghost use Rattle.mq_rules.specs.Worked.{client, client_unrecorded, server, applying, Close, Cut, sends, gets, sends_sized, sends_bad, gets_bad, sends_lost, gets_lost, lasting, again, unnamed, asking, accepting, resuming, refusing, limiting, retaining, assigning, informing, leaving, at_most_once, once, exactly, retained_once, expiring, aliased, asks_a, asks_b, asks_both, asks_twice, removes_a, removes_both, removes_twice, asks_shared, client_asked, server_asked, with_will, with_method, announcing, naming_method, auth_alone, auth_by, one_method, other_method, lacking, leaving_by, retained_at_most_once, retained_again, asks_plainly, asks_widely, asks_identified, asks_to_share, subscribed, fleeting};
 
 /// What begins a connection (C01 to C06).
 pub fn places_of_beginnings()
@@ -115,7 +115,7 @@ pub fn places_of_answers()
     ensures pubrel { applying client E3A (Open ∷ sends lasting ∷ gets accepting ∷ gets (Pubrec 1 0) ∷ sends (Pubrel 1 0) ∷ []) ≡ 5 ∷ [] }
     ensures pubcomp { applying client E4A (Open ∷ sends lasting ∷ gets accepting ∷ gets (Pubrel 1 0) ∷ sends (Pubcomp 1 0) ∷ []) ≡ 5 ∷ [] }
     ensures suback { applying server E5A (Open ∷ gets lasting ∷ sends accepting ∷ gets (asks_a 1 0) ∷ sends (Suback 1 []) ∷ []) ≡ 5 ∷ [] }
-    ensures unsuback { applying server E6A (Open ∷ gets lasting ∷ sends accepting ∷ gets (Unsubscribe 1 1) ∷ sends (Unsuback 1 1) ∷ []) ≡ 5 ∷ [] }
+    ensures unsuback { applying server E6A (Open ∷ gets lasting ∷ sends accepting ∷ gets (removes_a 1) ∷ sends (Unsuback 1 (0 ∷ [])) ∷ []) ≡ 5 ∷ [] }
 {}
 
 /// What asks for an answer, as a REST shows (E1R to E7R).
@@ -127,7 +127,7 @@ pub fn places_of_causes()
     ensures pubrec { applying client E3R (Open ∷ sends lasting ∷ gets accepting ∷ gets (Pubrec 1 0) ∷ sends (Pubrel 1 0) ∷ Rest ∷ []) ≡ 4 ∷ [] }
     ensures pubrel { applying client E4R (Open ∷ sends lasting ∷ gets accepting ∷ gets (Pubrel 1 0) ∷ sends (Pubcomp 1 0) ∷ Rest ∷ []) ≡ 4 ∷ [] }
     ensures subscribe { applying server E5R (Open ∷ gets lasting ∷ sends accepting ∷ gets (asks_a 1 0) ∷ sends (Suback 1 []) ∷ Rest ∷ []) ≡ 4 ∷ [] }
-    ensures unsubscribe { applying server E6R (Open ∷ gets lasting ∷ sends accepting ∷ gets (Unsubscribe 1 1) ∷ sends (Unsuback 1 1) ∷ Rest ∷ []) ≡ 4 ∷ [] }
+    ensures unsubscribe { applying server E6R (Open ∷ gets lasting ∷ sends accepting ∷ gets (removes_a 1) ∷ sends (Unsuback 1 (0 ∷ [])) ∷ Rest ∷ []) ≡ 4 ∷ [] }
     ensures pingreq { applying server E7R (Open ∷ gets lasting ∷ sends accepting ∷ Rest ∷ gets Pingreq ∷ sends Pingresp ∷ Rest ∷ []) ≡ 7 ∷ [] }
 {}
 
@@ -155,7 +155,7 @@ pub fn places_of_subscriptions()
     ensures no_topic { applying server B01 (Open ∷ gets lasting ∷ sends accepting ∷ gets (asks_a 1 0) ∷ sends (aliased [] 5) ∷ []) ≡ [] }
     ensures qos { applying server B02 (Open ∷ gets lasting ∷ sends accepting ∷ gets (asks_a 1 1) ∷ sends (once false 1) ∷ sends at_most_once ∷ []) ≡ 5 ∷ [] }
     ensures suback { applying server B03 (Open ∷ gets lasting ∷ sends accepting ∷ gets (asks_a 1 0) ∷ sends (Suback 1 (0 ∷ [])) ∷ sends (Suback 1 (0 ∷ [])) ∷ []) ≡ 5 ∷ [] }
-    ensures unsuback { applying server B04 (Open ∷ gets lasting ∷ sends accepting ∷ gets (Unsubscribe 1 1) ∷ sends (Unsuback 1 1) ∷ sends (Unsuback 1 1) ∷ []) ≡ 5 ∷ [] }
+    ensures unsuback { applying server B04 (Open ∷ gets lasting ∷ sends accepting ∷ gets (removes_a 1) ∷ sends (Unsuback 1 (0 ∷ [])) ∷ sends (Unsuback 1 (0 ∷ [])) ∷ []) ≡ 5 ∷ [] }
 {}
 
 /// What a SUBACK grants (B05).
@@ -167,6 +167,73 @@ pub fn places_of_granted_qos()
     ensures without_filter { applying server_asked B05 (Open ∷ gets lasting ∷ sends accepting ∷ gets (asks_a 1 0) ∷ sends (Suback 1 (135 ∷ 0 ∷ [])) ∷ []) ≡ [] }
     ensures without_code { applying server_asked B05 (Open ∷ gets lasting ∷ sends accepting ∷ gets (asks_a 1 0) ∷ sends (Suback 1 []) ∷ []) ≡ [] }
     ensures unasked { applying server B05 (Open ∷ gets lasting ∷ sends accepting ∷ gets (asks_a 1 0) ∷ sends (Suback 1 (0 ∷ [])) ∷ []) ≡ [] }
+{}
+
+/// What an UNSUBACK says of filters (B06 and B07).
+pub fn places_of_unsubscribed()
+    ensures denied { applying server_asked B06 (Open ∷ gets lasting ∷ sends accepting ∷ gets (asks_a 1 0) ∷ sends (Suback 1 (0 ∷ [])) ∷ gets (removes_a 2) ∷ sends (Unsuback 2 (17 ∷ [])) ∷ []) ≡ 7 ∷ [] }
+    ensures removed { applying server_asked B06 (Open ∷ gets lasting ∷ sends accepting ∷ gets (asks_a 1 0) ∷ sends (Suback 1 (0 ∷ [])) ∷ gets (removes_a 2) ∷ sends (Unsuback 2 (0 ∷ [])) ∷ []) ≡ 7 ∷ [] }
+    ensures failed { applying server_asked B06 (Open ∷ gets lasting ∷ sends accepting ∷ gets (asks_a 1 0) ∷ sends (Suback 1 (0 ∷ [])) ∷ gets (removes_a 2) ∷ sends (Unsuback 2 (128 ∷ [])) ∷ []) ≡ [] }
+    ensures not_answered { applying server_asked B06 (Open ∷ gets lasting ∷ sends accepting ∷ gets (asks_a 1 0) ∷ gets (removes_a 2) ∷ sends (Unsuback 2 (17 ∷ [])) ∷ []) ≡ [] }
+    ensures refused { applying server_asked B06 (Open ∷ gets lasting ∷ sends accepting ∷ gets (asks_a 1 0) ∷ sends (Suback 1 (135 ∷ [])) ∷ gets (removes_a 2) ∷ sends (Unsuback 2 (17 ∷ [])) ∷ []) ≡ [] }
+    ensures removed_before { applying server_asked B06 (Open ∷ gets lasting ∷ sends accepting ∷ gets (asks_a 1 0) ∷ sends (Suback 1 (0 ∷ [])) ∷ gets (removes_a 2) ∷ sends (Unsuback 2 (0 ∷ [])) ∷ gets (removes_a 3) ∷ sends (Unsuback 3 (17 ∷ [])) ∷ []) ≡ 7 ∷ [] }
+    ensures subscribed_again { applying server_asked B06 (Open ∷ gets lasting ∷ sends accepting ∷ gets (asks_a 1 0) ∷ sends (Suback 1 (0 ∷ [])) ∷ gets (removes_a 2) ∷ sends (Unsuback 2 (0 ∷ [])) ∷ gets (asks_a 3 0) ∷ sends (Suback 3 (0 ∷ [])) ∷ gets (removes_a 4) ∷ sends (Unsuback 4 (0 ∷ [])) ∷ []) ≡ 11 ∷ 7 ∷ [] }
+    ensures first_place { applying server_asked B06 (Open ∷ gets lasting ∷ sends accepting ∷ gets (asks_a 1 0) ∷ sends (Suback 1 (0 ∷ [])) ∷ gets (removes_twice 2) ∷ sends (Unsuback 2 (0 ∷ 17 ∷ [])) ∷ []) ≡ 7 ∷ [] }
+    ensures not_first_place { applying server_asked B06 (Open ∷ gets lasting ∷ sends accepting ∷ gets (asks_a 1 0) ∷ sends (Suback 1 (0 ∷ [])) ∷ gets (removes_twice 2) ∷ sends (Unsuback 2 (128 ∷ 17 ∷ [])) ∷ []) ≡ [] }
+    ensures second_filter { applying server_asked B06 (Open ∷ gets lasting ∷ sends accepting ∷ gets (asks_b 1 0) ∷ sends (Suback 1 (0 ∷ [])) ∷ gets (removes_both 2) ∷ sends (Unsuback 2 (17 ∷ 17 ∷ [])) ∷ []) ≡ 7 ∷ [] }
+    ensures second_failed { applying server_asked B06 (Open ∷ gets lasting ∷ sends accepting ∷ gets (asks_b 1 0) ∷ sends (Suback 1 (0 ∷ [])) ∷ gets (removes_both 2) ∷ sends (Unsuback 2 (17 ∷ 128 ∷ [])) ∷ []) ≡ [] }
+    ensures without_code { applying server_asked B06 (Open ∷ gets lasting ∷ sends accepting ∷ gets (asks_b 1 0) ∷ sends (Suback 1 (0 ∷ [])) ∷ gets (removes_both 2) ∷ sends (Unsuback 2 (17 ∷ [])) ∷ []) ≡ [] }
+    ensures granted_last { applying server_asked B06 (Open ∷ gets lasting ∷ sends accepting ∷ gets (asks_twice 1) ∷ sends (Suback 1 (135 ∷ 0 ∷ [])) ∷ gets (removes_a 2) ∷ sends (Unsuback 2 (17 ∷ [])) ∷ []) ≡ 7 ∷ [] }
+    ensures granted_first { applying server_asked B06 (Open ∷ gets lasting ∷ sends accepting ∷ gets (asks_twice 1) ∷ sends (Suback 1 (0 ∷ 135 ∷ [])) ∷ gets (removes_a 2) ∷ sends (Unsuback 2 (17 ∷ [])) ∷ []) ≡ [] }
+    ensures first_answer { applying server_asked B06 (Open ∷ gets lasting ∷ sends accepting ∷ gets (asks_a 1 0) ∷ sends (Suback 1 (0 ∷ [])) ∷ gets (removes_a 2) ∷ sends (Unsuback 2 (0 ∷ [])) ∷ sends (Unsuback 2 (0 ∷ [])) ∷ []) ≡ 7 ∷ [] }
+    ensures unknown_identifier { applying server_asked B06 (Open ∷ gets lasting ∷ sends accepting ∷ gets (asks_a 1 0) ∷ sends (Suback 1 (0 ∷ [])) ∷ gets (removes_a 2) ∷ sends (Unsuback 3 (0 ∷ [])) ∷ []) ≡ [] }
+    ensures overtaken { applying server_asked B06 (Open ∷ gets lasting ∷ sends accepting ∷ gets (asks_a 1 0) ∷ sends (Suback 1 (0 ∷ [])) ∷ gets (removes_a 2) ∷ gets (removes_a 3) ∷ sends (Unsuback 3 (0 ∷ [])) ∷ sends (Unsuback 2 (0 ∷ [])) ∷ []) ≡ [] }
+    ensures in_use { applying server_asked B06 (Open ∷ gets lasting ∷ sends accepting ∷ gets (asks_b 1 0) ∷ gets (asks_a 1 0) ∷ sends (Suback 1 (0 ∷ [])) ∷ sends (Suback 1 (0 ∷ [])) ∷ gets (removes_a 2) ∷ sends (Unsuback 2 (0 ∷ [])) ∷ []) ≡ [] }
+    ensures in_new_session { applying server_asked B06 (Open ∷ gets lasting ∷ sends accepting ∷ gets (asks_a 1 0) ∷ sends (Suback 1 (0 ∷ [])) ∷ Close ∷ Open ∷ gets lasting ∷ sends accepting ∷ gets (removes_a 2) ∷ sends (Unsuback 2 (17 ∷ [])) ∷ []) ≡ [] }
+    ensures in_resumed_session { applying server_asked B06 (Open ∷ gets lasting ∷ sends accepting ∷ gets (asks_a 1 0) ∷ sends (Suback 1 (0 ∷ [])) ∷ Close ∷ Open ∷ gets again ∷ sends resuming ∷ gets (removes_a 2) ∷ sends (Unsuback 2 (0 ∷ [])) ∷ []) ≡ 11 ∷ [] }
+    ensures on_next_connection { applying server_asked B06 (Open ∷ gets lasting ∷ sends accepting ∷ gets (asks_a 1 0) ∷ sends (Suback 1 (0 ∷ [])) ∷ gets (removes_a 2) ∷ Close ∷ Open ∷ gets again ∷ sends resuming ∷ sends (Unsuback 2 (0 ∷ [])) ∷ []) ≡ [] }
+    ensures early { applying server_asked B06 (Open ∷ gets lasting ∷ gets (asks_a 1 0) ∷ sends (Suback 1 (0 ∷ [])) ∷ gets (removes_a 2) ∷ sends (Unsuback 2 (0 ∷ [])) ∷ sends accepting ∷ []) ≡ 6 ∷ [] }
+    ensures turned_away { applying server_asked B06 (Open ∷ gets lasting ∷ gets (asks_a 1 0) ∷ sends (Suback 1 (0 ∷ [])) ∷ gets (removes_a 2) ∷ sends (Unsuback 2 (0 ∷ [])) ∷ sends refusing ∷ []) ≡ [] }
+    ensures bad_subscribe { applying server_asked B06 (Open ∷ gets lasting ∷ sends accepting ∷ gets (asks_a 1 0) ∷ sends (Suback 1 (0 ∷ [])) ∷ gets_bad 130 packets.W15 ∷ gets (removes_a 2) ∷ sends (Unsuback 2 (0 ∷ [])) ∷ []) ≡ [] }
+    ensures bad_unsubscribe_before { applying server_asked B06 (Open ∷ gets lasting ∷ sends accepting ∷ gets (asks_a 1 0) ∷ sends (Suback 1 (0 ∷ [])) ∷ gets_bad 162 packets.W15 ∷ Close ∷ Open ∷ gets again ∷ sends resuming ∷ gets (removes_a 2) ∷ sends (Unsuback 2 (0 ∷ [])) ∷ []) ≡ [] }
+    ensures bad_publish { applying server_asked B06 (Open ∷ gets lasting ∷ sends accepting ∷ gets (asks_a 1 0) ∷ sends (Suback 1 (0 ∷ [])) ∷ gets_bad 48 packets.W14 ∷ gets (removes_a 2) ∷ sends (Unsuback 2 (0 ∷ [])) ∷ []) ≡ 8 ∷ [] }
+    ensures bad_unsubscribe_on_void { applying server_asked B06 (Open ∷ gets lasting ∷ sends accepting ∷ gets (asks_a 1 0) ∷ sends (Suback 1 (0 ∷ [])) ∷ Close ∷ Open ∷ gets again ∷ gets_bad 162 packets.W15 ∷ Close ∷ Open ∷ gets again ∷ sends resuming ∷ gets (removes_a 2) ∷ sends (Unsuback 2 (0 ∷ [])) ∷ []) ≡ [] }
+    ensures lost { applying server_asked B06 (Open ∷ gets lasting ∷ sends accepting ∷ gets (asks_a 1 0) ∷ sends (Suback 1 (0 ∷ [])) ∷ gets (removes_a 2) ∷ gets_lost ∷ sends (Unsuback 2 (0 ∷ [])) ∷ []) ≡ [] }
+    ensures lost_in_session_before { applying server_asked B06 (Open ∷ gets lasting ∷ sends accepting ∷ gets_lost ∷ Close ∷ Open ∷ gets lasting ∷ sends accepting ∷ gets (asks_a 1 0) ∷ sends (Suback 1 (0 ∷ [])) ∷ gets (removes_a 2) ∷ sends (Unsuback 2 (0 ∷ [])) ∷ []) ≡ 12 ∷ [] }
+    ensures unasked { applying server B06 (Open ∷ gets lasting ∷ sends accepting ∷ gets (asks_a 1 0) ∷ sends (Suback 1 (0 ∷ [])) ∷ gets (removes_a 2) ∷ sends (Unsuback 2 (0 ∷ [])) ∷ []) ≡ [] }
+    ensures of_client { applying client_asked B06 (Open ∷ sends lasting ∷ gets accepting ∷ gets (asks_a 1 0) ∷ sends (Suback 1 (0 ∷ [])) ∷ gets (removes_a 2) ∷ sends (Unsuback 2 (0 ∷ [])) ∷ []) ≡ [] }
+    ensures deleted_never_subscribed { applying server_asked B07 (Open ∷ gets lasting ∷ sends accepting ∷ gets (removes_a 1) ∷ sends (Unsuback 1 (0 ∷ [])) ∷ []) ≡ 5 ∷ [] }
+    ensures denied_never_subscribed { applying server_asked B07 (Open ∷ gets lasting ∷ sends accepting ∷ gets (removes_a 1) ∷ sends (Unsuback 1 (17 ∷ [])) ∷ []) ≡ 5 ∷ [] }
+    ensures failed_never_subscribed { applying server_asked B07 (Open ∷ gets lasting ∷ sends accepting ∷ gets (removes_a 1) ∷ sends (Unsuback 1 (128 ∷ [])) ∷ []) ≡ [] }
+    ensures deleted_subscribed { applying server_asked B07 (Open ∷ gets lasting ∷ sends accepting ∷ gets (asks_a 1 0) ∷ sends (Suback 1 (0 ∷ [])) ∷ gets (removes_a 2) ∷ sends (Unsuback 2 (0 ∷ [])) ∷ []) ≡ 7 ∷ [] }
+    ensures denied_subscribed { applying server_asked B07 (Open ∷ gets lasting ∷ sends accepting ∷ gets (asks_a 1 0) ∷ sends (Suback 1 (0 ∷ [])) ∷ gets (removes_a 2) ∷ sends (Unsuback 2 (17 ∷ [])) ∷ []) ≡ [] }
+    ensures deleted_waiting { applying server_asked B07 (Open ∷ gets lasting ∷ sends accepting ∷ gets (asks_a 1 0) ∷ gets (removes_a 2) ∷ sends (Unsuback 2 (0 ∷ [])) ∷ []) ≡ 6 ∷ [] }
+    ensures denied_waiting { applying server_asked B07 (Open ∷ gets lasting ∷ sends accepting ∷ gets (asks_a 1 0) ∷ gets (removes_a 2) ∷ sends (Unsuback 2 (17 ∷ [])) ∷ []) ≡ [] }
+    ensures denied_refused { applying server_asked B07 (Open ∷ gets lasting ∷ sends accepting ∷ gets (asks_a 1 0) ∷ sends (Suback 1 (135 ∷ [])) ∷ gets (removes_a 2) ∷ sends (Unsuback 2 (17 ∷ [])) ∷ []) ≡ 7 ∷ [] }
+    ensures denied_refused_after { applying server_asked B07 (Open ∷ gets lasting ∷ sends accepting ∷ gets (asks_a 1 0) ∷ gets (removes_a 2) ∷ sends (Suback 1 (135 ∷ [])) ∷ sends (Unsuback 2 (17 ∷ [])) ∷ []) ≡ 7 ∷ [] }
+    ensures denied_again { applying server_asked B07 (Open ∷ gets lasting ∷ sends accepting ∷ gets (asks_a 1 0) ∷ sends (Suback 1 (0 ∷ [])) ∷ gets (removes_a 2) ∷ sends (Unsuback 2 (0 ∷ [])) ∷ gets (removes_a 3) ∷ sends (Unsuback 3 (17 ∷ [])) ∷ []) ≡ 7 ∷ [] }
+    ensures deleted_again { applying server_asked B07 (Open ∷ gets lasting ∷ sends accepting ∷ gets (asks_a 1 0) ∷ sends (Suback 1 (0 ∷ [])) ∷ gets (removes_a 2) ∷ sends (Unsuback 2 (0 ∷ [])) ∷ gets (removes_a 3) ∷ sends (Unsuback 3 (0 ∷ [])) ∷ []) ≡ 9 ∷ 7 ∷ [] }
+    ensures one_of_both { applying server_asked B07 (Open ∷ gets lasting ∷ sends accepting ∷ gets (asks_a 1 0) ∷ sends (Suback 1 (0 ∷ [])) ∷ gets (removes_both 2) ∷ sends (Unsuback 2 (17 ∷ 17 ∷ [])) ∷ []) ≡ 7 ∷ [] }
+    ensures none_of_both { applying server_asked B07 (Open ∷ gets lasting ∷ sends accepting ∷ gets (asks_a 1 0) ∷ sends (Suback 1 (0 ∷ [])) ∷ gets (removes_both 2) ∷ sends (Unsuback 2 (17 ∷ 128 ∷ [])) ∷ []) ≡ [] }
+    ensures too_few_codes { applying server_asked B07 (Open ∷ gets lasting ∷ sends accepting ∷ gets (asks_a 1 0) ∷ sends (Suback 1 (0 ∷ [])) ∷ gets (removes_both 2) ∷ sends (Unsuback 2 (17 ∷ [])) ∷ []) ≡ [] }
+    ensures answered_once { applying server_asked B07 (Open ∷ gets lasting ∷ sends accepting ∷ gets (removes_a 1) ∷ sends (Unsuback 1 (0 ∷ [])) ∷ sends (Unsuback 1 (0 ∷ [])) ∷ []) ≡ 5 ∷ [] }
+    ensures answer_to_none { applying server_asked B07 (Open ∷ gets lasting ∷ sends accepting ∷ gets (removes_a 1) ∷ sends (Unsuback 2 (0 ∷ [])) ∷ []) ≡ [] }
+    ensures denied_in_use { applying server_asked B07 (Open ∷ gets lasting ∷ sends accepting ∷ gets (asks_b 1 0) ∷ gets (asks_a 1 0) ∷ sends (Suback 1 (0 ∷ [])) ∷ sends (Suback 1 (145 ∷ [])) ∷ gets (removes_a 2) ∷ sends (Unsuback 2 (17 ∷ [])) ∷ []) ≡ [] }
+    ensures denied_anew { applying server_asked B07 (Open ∷ gets lasting ∷ sends accepting ∷ gets (asks_a 1 0) ∷ sends (Suback 1 (0 ∷ [])) ∷ Close ∷ Open ∷ gets lasting ∷ sends accepting ∷ gets (removes_a 2) ∷ sends (Unsuback 2 (17 ∷ [])) ∷ []) ≡ 11 ∷ [] }
+    ensures denied_resumed { applying server_asked B07 (Open ∷ gets lasting ∷ sends accepting ∷ gets (asks_a 1 0) ∷ sends (Suback 1 (0 ∷ [])) ∷ Close ∷ Open ∷ gets again ∷ sends resuming ∷ gets (removes_a 2) ∷ sends (Unsuback 2 (17 ∷ [])) ∷ []) ≡ [] }
+    ensures deleted_resumed { applying server_asked B07 (Open ∷ gets lasting ∷ sends accepting ∷ gets (asks_a 1 0) ∷ sends (Suback 1 (0 ∷ [])) ∷ Close ∷ Open ∷ gets again ∷ sends resuming ∷ gets (removes_a 2) ∷ sends (Unsuback 2 (0 ∷ [])) ∷ []) ≡ 11 ∷ [] }
+    ensures before_connack { applying server_asked B07 (Open ∷ gets lasting ∷ gets (removes_a 1) ∷ sends (Unsuback 1 (17 ∷ [])) ∷ sends accepting ∷ []) ≡ 4 ∷ [] }
+    ensures not_accepted { applying server_asked B07 (Open ∷ gets lasting ∷ gets (removes_a 1) ∷ sends (Unsuback 1 (17 ∷ [])) ∷ sends refusing ∷ []) ≡ [] }
+    ensures unreadable_subscribe { applying server_asked B07 (Open ∷ gets lasting ∷ sends accepting ∷ gets_bad 130 packets.W15 ∷ gets (removes_a 2) ∷ sends (Unsuback 2 (0 ∷ [])) ∷ []) ≡ [] }
+    ensures unreadable_unsubscribe { applying server_asked B07 (Open ∷ gets lasting ∷ sends accepting ∷ gets_bad 162 packets.W15 ∷ gets (removes_a 2) ∷ sends (Unsuback 2 (17 ∷ [])) ∷ []) ≡ [] }
+    ensures unreadable_stream { applying server_asked B07 (Open ∷ gets lasting ∷ sends accepting ∷ gets (removes_a 1) ∷ gets_lost ∷ sends (Unsuback 1 (17 ∷ [])) ∷ []) ≡ [] }
+    ensures unreadable_publish { applying server_asked B07 (Open ∷ gets lasting ∷ sends accepting ∷ gets_bad 48 packets.W14 ∷ gets (removes_a 2) ∷ sends (Unsuback 2 (17 ∷ [])) ∷ []) ≡ 6 ∷ [] }
+    ensures unreadable_after { applying server_asked B07 (Open ∷ gets lasting ∷ sends accepting ∷ gets (removes_a 2) ∷ sends (Unsuback 2 (17 ∷ [])) ∷ gets_bad 130 packets.W15 ∷ []) ≡ 5 ∷ [] }
+    ensures unreadable_earlier { applying server_asked B07 (Open ∷ gets lasting ∷ sends accepting ∷ gets_bad 130 packets.W15 ∷ Close ∷ Open ∷ gets again ∷ sends resuming ∷ gets (removes_a 2) ∷ sends (Unsuback 2 (0 ∷ [])) ∷ []) ≡ [] }
+    ensures unreadable_void { applying server_asked B07 (Open ∷ gets lasting ∷ sends accepting ∷ Close ∷ Open ∷ gets again ∷ gets_lost ∷ Close ∷ Open ∷ gets again ∷ sends resuming ∷ gets (removes_a 2) ∷ sends (Unsuback 2 (0 ∷ [])) ∷ []) ≡ [] }
+    ensures unreadable_session { applying server_asked B07 (Open ∷ gets lasting ∷ sends accepting ∷ gets_bad 130 packets.W15 ∷ Close ∷ Open ∷ gets lasting ∷ sends accepting ∷ gets (removes_a 2) ∷ sends (Unsuback 2 (0 ∷ [])) ∷ []) ≡ 10 ∷ [] }
+    ensures not_asked { applying server B07 (Open ∷ gets lasting ∷ sends accepting ∷ gets (removes_a 2) ∷ sends (Unsuback 2 (0 ∷ [])) ∷ []) ≡ [] }
+    ensures client { applying client_asked B07 (Open ∷ sends lasting ∷ gets accepting ∷ gets (removes_a 2) ∷ sends (Unsuback 2 (0 ∷ [])) ∷ []) ≡ [] }
 {}
 
 /// Ends that a statement doesn't bind, releases that aren't recorded, a session that is unknown,

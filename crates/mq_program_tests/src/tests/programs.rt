@@ -100,7 +100,12 @@ static ROWS: [Row; 36] = [
         error: "mqjudge: --all, --times and --statements choose statements: give one of them\n",
     },
     Row {
-        words: &["mqjudge", "rules", "--statements", "B,-B01,-B03,-B04,-B05"],
+        words: &[
+            "mqjudge",
+            "rules",
+            "--statements",
+            "B,-B01,-B03,-B04,-B05,-B06,-B07",
+        ],
         file: GOOD,
         input: GOOD,
         status: 0,
