@@ -8,7 +8,7 @@ or --times, of the further statements that the program judges by that, further.p
 
 For each log it prints its report, as `mqjudge check` does, and under each fault a line `because POSITION CODE event POSITION numbers N N`:
 `event -` where no event is to blame, and no numbers where there are none. With --words it says after that, in parentheses, what the event
-is, or what never came, in the words that the program has for it (mq_report/specs/Because.antt). With --self-test it checks worked logs
+is, or what never came, in the words that the program has for it (mq_display/specs/Because.antt). With --self-test it checks worked logs
 (worked_because.py), those of the suite, and laws on these and many others.
 
 usage: bench/because.py [--words] [--all | --times] LOG..

@@ -28,7 +28,7 @@ use Rattle.mq_judge.specs.Watching.{IsFound, IsWatching, IsTallying, IsJudging}
 use Rattle.mq_judge.specs.declared.judge.Judge.{Judge}
 use Rattle.mq_judge.specs.Judging.{FollowsBy, KnowsBy, RefusesIn, JudgesPiece, JudgesPieceBy, TakesEvents, AreFaultsOf}
 use Rattle.mq_report.specs.Stopping.{IsRefusedByte}
-use Rattle.mq_report.proofs.HeaderLaws.{header-stays}
+use Rattle.mq_report.proofs.Exports.{header-stays}
 
 -- ---- the events and the header
 

@@ -18,10 +18,8 @@ pub use laws::{converted_logs_have_the_same_chosen_report, known_faults_stay};
 pub use mq_choice::{Choice, Unchosen};
 pub use mq_log::Refusal;
 pub use mq_report::{
-    Begun, Covered, Evidence, Extent, Form, Gap, Numbers, Outcome, RunFault, Verdict,
-    converted_logs_have_the_same_report, dates_are_exact, show, show_faults, show_long,
-    worked_times, write_json, write_long_packet, write_packet, write_refused, write_summary,
-    write_text,
+    Begun, Covered, Evidence, Form, Gap, Numbers, Outcome, RunFault, Verdict,
+    converted_logs_have_the_same_report, write_json, write_refused, write_summary, write_text,
 };
 pub use mq_rules::{Fault, FaultKey, Faults, Further, Memory, Role, Rule, Tested};
 pub use mq_trace::{ConvertFault, convert};

@@ -8,16 +8,6 @@ pub mod SummaryLaws
 pub mod UnjudgedLaws
 pub mod CoverageLaws
 pub mod ReasonLaws
-pub mod OutgoingLaws
-pub mod DetailLaws
-pub mod MarkingLaws
 pub mod OneLineLaws
 pub mod UnreasonedLaws
-pub mod CalendarLaws
-pub mod ViewLaws
-pub mod NearLaws
-pub mod ExplainedLaws
-pub mod DisplayLaws
-pub mod CodeLaws
-pub mod OnePacketLaws
-pub mod LongPacketLaws
+pub mod Exports

@@ -9,7 +9,7 @@ use Rattle.mq_log.specs.Refusing.{spaced}
 use Rattle.mq_report.specs.declared.report.unjudged.Begun.{Begun}
 use Rattle.mq_report.specs.declared.report.unjudged.Gap.{Gap}
 use Rattle.mq_report.specs.declared.report.unjudged.Gap.TheVariants.{Lost, UnknownSession, Unfinished, UndecidedSession, Shared, NoRest, NoReleases}
-use Rattle.mq_report.specs.Details.{name_beside, type_names}
+use Rattle.mq_report.specs.TypeNames.{name_beside, type_names}
 use Rattle.mq_report.specs.Report.{line}
 
 -- what it is that wasn't judged: a direction, a session, statements, or whether answers are missing

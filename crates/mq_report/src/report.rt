@@ -8,10 +8,8 @@ ghost use Rattle.mq_report.specs.Coverage.{covered_report_on};
 ghost use Rattle.mq_report.specs.Reasons.{reasoned_report_on};
 
 pub mod coverage;
-pub mod item;
 pub mod json;
 pub mod line;
-pub mod packet_summary;
 pub mod reasons;
 pub mod summary;
 pub mod text;

@@ -1,6 +1,6 @@
 //! The names of the types of packets.
 ghost use Rattle.std.specs.Prelude.{◌≡◌, ◌<◌, ◌/◌};
-ghost use Rattle.mq_report.specs.Details.{name_beside, type_names};
+ghost use Rattle.mq_report.specs.TypeNames.{name_beside, type_names};
 
 /// The name of the type that the first byte of a packet has in its high four bits (MQTT 5.0,
 /// section 2.1.2): that of 0, which no packet may have, is `Reserved`.

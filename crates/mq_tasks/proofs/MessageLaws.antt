@@ -23,7 +23,7 @@ use Rattle.mq_judge.specs.declared.RunFault.TheVariants as run_faults
 use Rattle.mq_report.specs.Report.{refused_line, refused_report}
 use Rattle.mq_judge.specs.Runner.{IsFaultless, RunsCoveredOver, RunsOver}
 use Rattle.mq_report.specs.Stopping.{IsJudged, default_limit, IsRefusedAt, IsRefusedNext, IsUnread}
-use Rattle.mq_report.specs.Display.{Shows}
+use Rattle.mq_display.specs.Display.{Shows}
 use Rattle.mq_trace.proofs.Exports.{appends-kept, appends-then}
 use Rattle.mq_command.specs.declared.scope.Scope.{Scope}
 use Rattle.mq_command.specs.declared.command_line.Task.{Task}

@@ -13,7 +13,7 @@ use Rattle.mq_host.specs.declared.failure.Failure.TheVariants as failures
 use Rattle.mq_host.specs.declared.failure.Obstacle.TheVariants as obstacles
 use Rattle.mq_host.specs.declared.trouble.Trouble.TheVariants as troubles
 use Rattle.mq_judge.specs.declared.Form.{Form}
-use Rattle.mq_report.specs.Display.{is_timed}
+use Rattle.mq_display.specs.Display.{is_timed}
 use Rattle.mq_command.specs.CommandLine.{path_of, reads_input}
 use Rattle.mq_tasks.specs.Converting.{Files, files_of}
 use Rattle.mq_judge.specs.Runner.{IsFaultless}

@@ -6,8 +6,8 @@ use Rattle.mq_judge.specs.declared.Form.{Form}
 use Rattle.mq_judge.specs.declared.Form.TheVariants.{Text, Json, Summary}
 use Rattle.mq_judge.specs.declared.Refusal.{Refusal}
 use Rattle.mq_judge.specs.declared.Refusal.TheVariants as refusals
-use Rattle.mq_report.specs.LongPacket.{long_packet_report}
-use Rattle.mq_report.specs.OnePacket.{IsOnePacket, packet_report}
+use Rattle.mq_display.specs.LongPacket.{long_packet_report}
+use Rattle.mq_display.specs.OnePacket.{IsOnePacket, packet_report}
 use Rattle.mq_report.specs.Report.{refused_line, refused_report}
 use Rattle.mq_judge.specs.declared.Outcome.{Outcome}
 use Rattle.mq_judge.specs.declared.RunFault.{RunFault}
@@ -15,7 +15,7 @@ use Rattle.mq_judge.specs.declared.RunFault.TheVariants as run_faults
 use Rattle.mq_judge.specs.Runner.{IsFaultless, chosen_report, covered_report, outcome_of}
 use Rattle.mq_trace.specs.Writing.{AppendsBeginning}
 use Rattle.mq_report.specs.Stopping.{IsJudged, default_limit, IsRefusedAt, IsRefusedNext}
-use Rattle.mq_report.specs.Display.{WritesBeginning, annotated, is_timed, short_lines_of, long_lines_of}
+use Rattle.mq_display.specs.Display.{WritesBeginning, annotated, is_timed, short_lines_of, long_lines_of}
 use Rattle.mq_log.specs.Events.{Placed, events}
 use Rattle.mq_log.specs.Refusals.{refused}
 use Rattle.mq_explain.specs.Citing.{explained_for}

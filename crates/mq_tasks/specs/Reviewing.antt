@@ -13,7 +13,7 @@ use Rattle.mq_report.specs.Report.{refused_line}
 use Rattle.mq_judge.specs.Runner.{IsFaultless}
 use Rattle.mq_choice.specs.Choices.{chosen_in, tested_for, unlisted}
 use Rattle.mq_report.specs.Stopping.{IsJudged, default_limit, IsRefusedAt}
-use Rattle.mq_report.specs.Display.{annotated, is_timed}
+use Rattle.mq_display.specs.Display.{annotated, is_timed}
 use Rattle.mq_rules.specs.declared.role.Role.{Role}
 use Rattle.mq_rules.specs.declared.role.Further.{Further}
 use Rattle.mq_rules.specs.declared.role.Tested.{Tested}

@@ -22,11 +22,12 @@ use crate::lapse::{Lapse, explain_again, tell_of_change};
 use crate::tasks::{EventView, refuse, show_log};
 use mq_choice::Choice;
 use mq_command::{Review, path_named};
+use mq_display::Extent;
 use mq_host::{
     ErrorStream, FAILED, Failure, Host, MISUSED, Misuse, Noting, Output, PASSED, REFUSED, Trouble,
     give_hint, read_start,
 };
-use mq_judge::{Extent, Form, RunFault, Verdict, judge_reader};
+use mq_judge::{Form, RunFault, Verdict, judge_reader};
 use mq_rules::{Evidence, Further, Role, Tested};
 use std::alloc::Global;
 use std::io::{Read, Write};

@@ -15,11 +15,11 @@ ghost use Rattle.mq_tasks.specs.Choosing.{chosen_as};
 ghost use Rattle.mq_judge.specs.declared.RunFault.TheVariants as run_faults;
 ghost use Rattle.mq_tasks.specs.Program.{FailsStop};
 ghost use Rattle.mq_host.specs.Streams.{AppendsPart, no_role_line, no_statement_line, stream};
-ghost use Rattle.mq_report.specs.OnePacket.{IsOnePacket};
+ghost use Rattle.mq_display.specs.OnePacket.{IsOnePacket};
 ghost use Rattle.mq_report.specs.Report.{refused_report};
 ghost use Rattle.mq_judge.specs.Runner.{IsFaultless};
 ghost use Rattle.mq_report.specs.Stopping.{IsJudged};
-ghost use Rattle.mq_report.specs.Display.{Shows, is_timed};
+ghost use Rattle.mq_display.specs.Display.{Shows, is_timed};
 ghost use Rattle.mq_log.specs.Events.{events};
 ghost use Rattle.mq_trace.specs.Writing.{AppendsBeginning};
 
@@ -27,14 +27,15 @@ use crate::choosing::choice_for;
 use hex::{FromHexError, decode};
 use mq_choice::Choice;
 use mq_command::{EarlyExit, Form as AskedForm, Scope, Task, first_oddity, is_dash, packed};
+use mq_display::{Extent, show, show_faults, show_long, write_long_packet, write_packet};
 use mq_explain::{explanation, explanations_cited, role_named, statement_list};
 use mq_host::{
     ErrorStream, FAILED, FAULTY, Failure, MISUSED, MOST_TEXT, Misuse, NoText, Obstacle, Output,
     PASSED, REFUSED, Trouble, flush, read_text, write_out,
 };
 use mq_judge::{
-    Evidence, Extent, Faults, Form, Outcome, Progress, Refusal, RunFault, run_covered, run_watched,
-    show, show_faults, show_long, write_long_packet, write_packet, write_refused,
+    Evidence, Faults, Form, Outcome, Progress, Refusal, RunFault, run_covered, run_watched,
+    write_refused,
 };
 use mq_rules::{Role, Rule};
 use std::alloc::Global;

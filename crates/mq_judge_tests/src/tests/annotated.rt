@@ -1,10 +1,11 @@
 //! Logs that are shown with the faults at their events.
+use mq_display::{Extent, show_faults, show_long};
 use mq_harness::Part::{Open, Recv, Rest, Sent};
 use mq_harness::{
     CLIENT, CONNACK, CONNECT, HEADER, PINGREQ, PINGRESP, PUBACK, PUBLISH_ONCE,
     PUBLISH_UNIDENTIFIED, Part, add_record, log_of,
 };
-use mq_judge::{Choice, Extent, RunFault, judge_reader, show_faults, show_long};
+use mq_judge::{Choice, RunFault, judge_reader};
 use mq_log::Refusal;
 use std::alloc::{AllocError, Global};
 use std::fmt::Write as _;

@@ -1,4 +1,5 @@
 //! The examples in the documentation of the public calls, as they stand there.
+use mq_display::*;
 use mq_judge::*;
 use std::test::Fail;
 

@@ -1,9 +1,10 @@
 //! Logs that are longer than a buffer, a count or a number of turns at which something might stop.
+use mq_display::show;
 use mq_harness::{
     CLIENT, CONNACK, CONNECT, CONNECT_OF_C, Failing, HEADER, PINGREQ, PUBLISH_UNIDENTIFIED, Part,
     Pieces, SERVER, add_record, log_of,
 };
-use mq_judge::{Choice, Form, Outcome, RunFault, run, run_bounded, show};
+use mq_judge::{Choice, Form, Outcome, RunFault, run, run_bounded};
 use mq_log::Refusal;
 use std::alloc::Global;
 use std::fmt::Write as _;

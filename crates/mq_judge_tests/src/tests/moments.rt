@@ -1,6 +1,7 @@
 //! Logs of version 2, whose records have moments, as they are shown.
+use mq_display::{Extent, show, show_faults, show_long};
 use mq_harness::Pieces;
-use mq_judge::{Choice, Extent, RunFault, judge_reader, show, show_faults, show_long};
+use mq_judge::{Choice, RunFault, judge_reader};
 use mq_log::Refusal;
 use std::alloc::Global;
 use std::fmt::Write as _;

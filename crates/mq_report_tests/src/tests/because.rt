@@ -2,7 +2,7 @@
 //! statements and from `bench/because.py --words`.
 use super::harness::is_made_of;
 use super::lines::{line_of, role_of};
-use mq_report::{Extent, show_faults};
+use mq_display::{Extent, show_faults};
 use mq_rules::{Evidence, Fault, FaultKey, Faults, Numbers, Role, Rule};
 use std::alloc::Global;
 use std::process::Abort;

@@ -1,6 +1,6 @@
 //! The details of packets, written out.
 use super::harness::is_made_of;
-use mq_report::{show_long, write_long_packet};
+use mq_display::{show_long, write_long_packet};
 use std::alloc::{AllocError, Global};
 use std::process::Abort;
 use std::test::Fail;

@@ -1,6 +1,6 @@
 //! `show --faults`.
+use mq_display::Extent;
 use mq_host::{Failure, PASSED, REFUSED};
-use mq_judge::Extent;
 use mq_rules::Further;
 use mq_tasks::{Lapse, Plan, show_reasoned};
 use mq_tasks_harness::{CONNECTED, CONNECTED_LINES, NESTED, Narrow, Trickle, add_record};

@@ -1,4 +1,4 @@
-use Rattle.mq_report.specs.Display.{is_timed}
+use Rattle.mq_display.specs.Display.{is_timed}
 use Rattle.mq_tasks.specs.Messages.{text_in_view}
 use Rattle.mq_tasks.proofs.MessageLaws.{lines_stop, shown_refusal_is_printed, shown_refusal_stops}
 use Rattle.mq_tasks.proofs.tasks.show_log.Goals as goal

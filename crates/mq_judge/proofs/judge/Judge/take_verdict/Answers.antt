@@ -6,7 +6,7 @@ use Rattle.mq_rules.specs.declared.role.Tested.{Tested}
 use Rattle.mq_rules.specs.Notes.{tested_as}
 use Rattle.mq_judge.specs.Judging.{AreFaultsOf}
 use Rattle.mq_judge.proofs.JudgeLaws.{cut_unnamed, not-refused}
-use Rattle.mq_report.proofs.HeaderLaws.{named_by}
+use Rattle.mq_report.proofs.Exports.{named_by}
 use Rattle.mq_judge.proofs.judge.Judge.take_verdict.Goals as goal
 
 pub returns-in_err-finish-clause-verdict : goal.returns-in_err-finish-clause-verdict

@@ -3,7 +3,7 @@ use Rattle.std.proofs.lemmas.Result.{err_from_is_err_and}
 use Rattle.mq_log.specs.declared.refusal.Refusal.TheVariants as refusals
 use Rattle.mq_trace.specs.Tracing.{Traced, IsTracedTo}
 use Rattle.mq_rules.specs.Notes.{tested_as}
-use Rattle.mq_report.proofs.HeaderLaws.{named_by}
+use Rattle.mq_report.proofs.Exports.{named_by}
 use Rattle.mq_trail.proofs.SecondReadingLaws.{cut_unnamed}
 use Rattle.mq_trail.proofs.second_reading.Rereading.end.Goals as goal
 

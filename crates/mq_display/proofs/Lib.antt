@@ -1,0 +1,13 @@
+pub mod OutgoingLaws
+pub mod DetailLaws
+pub mod MarkingLaws
+pub mod OneLineLaws
+pub mod CalendarLaws
+pub mod ViewLaws
+pub mod NearLaws
+pub mod ExplainedLaws
+pub mod DisplayLaws
+pub mod CodeLaws
+pub mod OnePacketLaws
+pub mod LongPacketLaws
+pub mod PacketLineLaws

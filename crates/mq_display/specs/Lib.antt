@@ -1,0 +1,15 @@
+pub mod Because
+pub mod Phrases
+pub mod Summaries
+pub mod ItemText
+pub mod Outgoing
+pub mod Calendar
+pub mod Details
+pub mod Marking
+pub mod Detailing
+pub mod Display
+pub mod Views
+pub mod Tracing
+pub mod OnePacket
+pub mod Sentences
+pub mod LongPacket

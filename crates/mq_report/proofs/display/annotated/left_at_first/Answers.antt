@@ -1,6 +1,0 @@
-use Rattle.std.proofs.Common.{◌∙◌}
-use Rattle.mq_report.proofs.ExplainedLaws.{reasons_begin}
-use Rattle.mq_report.proofs.display.annotated.left_at_first.Goals as goal
-
-pub returns : goal.returns
-returns c = c.pass.ensures ∙ reasons_begin c.args.faults.now c.args.reasons.now

@@ -1,7 +1,0 @@
-use Rattle.std.proofs.Common.{refl}
-use Rattle.mq_report.proofs.OutgoingLaws.{puts_five}
-use Rattle.mq_report.proofs.display.because.put_on_two.Goals as goal
-
-pub returns-in-Some : goal.returns-in-Some
-returns-in-Some g c =
-    rw c.in-Some.is (puts_five g.W.Write.contents _ _ _ _ _ _ _ _ _ _ _ _ c.put.ensures c.put_number.ensures c.put-in-Some.ensures c.put_number-in-Some.ensures c.put-in-Some-2.ensures refl)

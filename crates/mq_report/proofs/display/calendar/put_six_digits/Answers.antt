@@ -1,6 +1,0 @@
-use Rattle.std.proofs.Common.{refl}
-use Rattle.mq_report.proofs.OutgoingLaws.{puts_two}
-use Rattle.mq_report.proofs.display.calendar.put_six_digits.Goals as goal
-
-pub returns : goal.returns
-returns g c = puts_two g.W.Write.contents _ _ _ _ _ _ c.put_two_digits.ensures c.put_four_digits.ensures refl

@@ -1,8 +1,0 @@
-use Rattle.mq_report.proofs.CalendarLaws.{IsAfterYears}
-use Rattle.mq_report.proofs.display.calendar.year_of.Given as goal
-
-abbrev pub invariant-loop-days : goal.invariant-loop-days
-invariant-loop-days l = IsAfterYears l.day l.year l.days
-
-abbrev pub decreases-loop-days : goal.decreases-loop-days
-decreases-loop-days l = l.days

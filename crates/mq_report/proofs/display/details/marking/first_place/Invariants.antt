@@ -1,6 +1,0 @@
-use Rattle.std.proofs.Common.{◌≡◌, None}
-use Rattle.mq_report.specs.Marking.{first_place, is_wrong}
-use Rattle.mq_report.proofs.display.details.marking.first_place.Given as goal
-
-abbrev pub invariant-loop-place : goal.invariant-loop-place
-invariant-loop-place l = first_place (is_wrong l.rule l.text) l.place ≡ None

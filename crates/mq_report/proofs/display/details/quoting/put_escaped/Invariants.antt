@@ -1,8 +1,0 @@
-use Rattle.std.proofs.Common.{take}
-use Rattle.std.specs.List.{flat_map}
-use Rattle.mq_report.specs.Details.{escaped}
-use Rattle.mq_report.specs.Outgoing.{Puts}
-use Rattle.mq_report.proofs.display.details.quoting.put_escaped.Given as goal
-
-abbrev pub invariant-loop-byte : goal.invariant-loop-byte
-invariant-loop-byte g l = Puts g.W.Write.contents l.fn.out (flat_map escaped (take l.byte-index l.bytes)) l.out

@@ -1,6 +1,0 @@
--- The digits of a number.
-use Rattle.mq_report.proofs.LineLaws.{all_written}
-use Rattle.mq_report.proofs.display.outgoing.put_digits.Goals as goal
-
-pub returns : goal.returns
-returns c = all_written _ _ _ _ c.write.ensures.writes
