@@ -10,7 +10,7 @@ ghost use Rattle.mq_topic.specs.Levels.{is_name};
 ghost use Rattle.mq_topic.specs.Matching.{matches as is_match, is_empty as empty};
 ghost use Rattle.mq_filters.specs.Standings.{has_ceiling, allows, standings, stands_any, AllFilters};
 
-use crate::ceilings::higher;
+use crate::ceilings::{ceiling_among, higher};
 use crate::patterns::{Patterns, wild_ceiling};
 use indexmap::IndexMap;
 use mq_topic::check_name;
@@ -137,6 +137,25 @@ impl StandingFilters {
         let literal = literal_ceiling(&self.literal, topic);
         let wild = wild_ceiling(alloc, &self.patterns, &self.wild, topic)?;
         Ok(higher(literal, wild))
+    }
+
+    // The same, without memory: it goes through all filters with wildcards.
+    fn ceiling_by_all(&self, topic: &str) -> Option<u8>
+        ensures { (qos : ℕ) → has_ceiling (nat_le qos) result ≡ list_any (λ s. is_match s.filter topic.now && nat_le qos s.ceiling) self.now }
+    {
+        let literal = literal_ceiling(&self.literal, topic);
+        higher(literal, ceiling_among(&self.wild, topic))
+    }
+
+    /// The same for callers that can't fail: where there is no memory to look for the filters, it
+    /// goes through all of them.
+    pub fn ceiling_always(&self, alloc: Global, topic: &str) -> Option<u8>
+        ensures { (qos : ℕ) → has_ceiling (nat_le qos) result ≡ list_any (λ s. is_match s.filter topic.now && nat_le qos s.ceiling) self.now }
+    {
+        match self.ceiling_for(alloc, topic) {
+            Ok(ceiling) => ceiling,
+            Err(AllocError) => self.ceiling_by_all(topic),
+        }
     }
 
     /// Whether no filter has a wildcard.
