@@ -435,7 +435,7 @@ has-greatest q topic (s ∷ ss) = go (matches s.filter topic) (greatest_for topi
     go true None h = low s.ceiling ∙ ap (λ b. nat_le q s.ceiling || b) h
     go true (Some g) h = high s.ceiling g (nat_lt s.ceiling g) refl ∙ ap (λ b. nat_le q s.ceiling || b) h
 
-same-ceiling : (a b : Option ℕ) → ((q : ℕ) → has_ceiling (nat_le q) a ≡ has_ceiling (nat_le q) b) → a ≡ b
+pub same-ceiling : (a b : Option ℕ) → ((q : ℕ) → has_ceiling (nat_le q) a ≡ has_ceiling (nat_le q) b) → a ≡ b
 same-ceiling None None h = refl
 same-ceiling None (Some b) h = let bad : false ≡ nat_le 0 b = h 0 in absurd (grind (arith, nat_tests))
 same-ceiling (Some a) None h = let bad : nat_le 0 a ≡ false = h 0 in absurd (grind (arith, nat_tests))
@@ -491,7 +491,7 @@ any-beside test b (s ∷ ss) = ap (λ x. (test s && b) || x) (any-beside test b 
     go false y b = refl
 
 -- the latest moment that passes a test is at this position or after it if some moment that passes is
-latest-has : (test : Moment → Bool) (q : ℕ) (ms : List Moment) → IsDescending ms → has_ceiling (nat_le q) (option_map position (latest test ms)) ≡ some (λ j. test j && nat_le q (position j)) ms
+pub latest-has : (test : Moment → Bool) (q : ℕ) (ms : List Moment) → IsDescending ms → has_ceiling (nat_le q) (option_map position (latest test ms)) ≡ some (λ j. test j && nat_le q (position j)) ms
 latest-has test q [] d = refl
 latest-has test q (m ∷ ms) d = go (test m) (latest-has test q ms d.1)
   where
@@ -518,7 +518,7 @@ latest-has test q (m ∷ ms) d = go (test m) (latest-has test q ms d.1)
         here true n = refl
         here false n = sym (below ms d.0 n)
 
-some-alike : (p q : Moment → Bool) (ms : List Moment) → ((j : Moment) → p j ≡ q j) → some p ms ≡ some q ms
+pub some-alike : (p q : Moment → Bool) (ms : List Moment) → ((j : Moment) → p j ≡ q j) → some p ms ≡ some q ms
 some-alike p q [] h = refl
 some-alike p q (m ∷ ms) h = ap (λ b. b || some p ms) (h m) ∙ ap (λ b. q m || b) (some-alike p q ms h)
 

@@ -28,7 +28,9 @@ use Rattle.mq_rules.specs.declared.evidence.Evidence.{Evidence}
 use Rattle.mq_evidence.specs.Evidence.{found, reason}
 use Rattle.mq_evidence.specs.Turning.{evidence_under}
 use Rattle.mq_evidence.specs.declared.trail.SessionTrail.{SessionTrail}
-use Rattle.mq_evidence.specs.Trailing.{is_found, needs_subscriptions, any_needs, finds, is_explained, explained_at, is_shut, IsExplained}
+use Rattle.mq_evidence.specs.declared.wanted.Need.{Need}
+use Rattle.mq_evidence.specs.declared.wanted.Need.TheVariants.{Standing, Asked}
+use Rattle.mq_evidence.specs.Trailing.{is_found, needs_standing, needs_asked, needs, any_needs, finds, is_explained, explained_at, is_shut, IsExplained}
 use Rattle.mq_evidence.proofs.TurnLaws.{evidence-older, evidence-newest}
 
 -- ---- the faults that are looked at with an event
@@ -87,31 +89,36 @@ wanted-listed chosen wanted k r finds there =
 -- ---- the faults that need Topic Filters
 
 -- one of these faults needs them, if one of this statement does
-needed : (k : ℕ) (r : Rule) → needs_subscriptions r ≡ true → (fs : List (FaultKey × Fault)) → list_any (eq_by_cmp key_cmp (record { position = k; rule = r })) (map (λ f. f.0) fs) ≡ true
-    → list_any (λ f. needs_subscriptions f.0.rule) fs ≡ true
-needed k r needs [] h = absurd (cc)
-needed k r needs (f ∷ fs) h = go (eq_by_cmp key_cmp q f.0) refl h (needed k r needs fs)
+needed : (need : Need) (k : ℕ) (r : Rule) → needs need r ≡ true → (fs : List (FaultKey × Fault)) → list_any (eq_by_cmp key_cmp (record { position = k; rule = r })) (map (λ f. f.0) fs) ≡ true
+    → list_any (λ f. needs need f.0.rule) fs ≡ true
+needed need k r wants [] h = absurd (cc)
+needed need k r wants (f ∷ fs) h = go (eq_by_cmp key_cmp q f.0) refl h (needed need k r wants fs)
   where
     q : FaultKey
     q = record { position = k; rule = r }
 
     go : (b : Bool) → eq_by_cmp key_cmp q f.0 ≡ b → (b || list_any (eq_by_cmp key_cmp q) (map (λ f. f.0) fs)) ≡ true
-        → (list_any (eq_by_cmp key_cmp q) (map (λ f. f.0) fs) ≡ true → list_any (λ f. needs_subscriptions f.0.rule) fs ≡ true)
-        → (needs_subscriptions f.0.rule || list_any (λ f. needs_subscriptions f.0.rule) fs) ≡ true
+        → (list_any (eq_by_cmp key_cmp q) (map (λ f. f.0) fs) ≡ true → list_any (λ f. needs need f.0.rule) fs ≡ true)
+        → (needs need f.0.rule || list_any (λ f. needs need f.0.rule) fs) ≡ true
     go true is h rest =
         let parts : (nat_eq k f.0.position ≡ true) × (same_rule r f.0.rule ≡ true) = both_true (nat_eq k f.0.position) (same_rule r f.0.rule) (laws.matches_eq-law q f.0 ∙ is) in
         let of : f.0.rule ≡ r = sym (same_true the_type tt r f.0.rule parts.1) in
-        ap (λ b. b || list_any (λ f. needs_subscriptions f.0.rule) fs) (ap needs_subscriptions of ∙ needs)
-    go false is h rest = ap (λ b. needs_subscriptions f.0.rule || b) (rest h) ∙ or_right (needs_subscriptions f.0.rule)
+        ap (λ b. b || list_any (λ f. needs need f.0.rule) fs) (ap (needs need) of ∙ wants)
+    go false is h rest = ap (λ b. needs need f.0.rule || b) (rest h) ∙ or_right (needs need f.0.rule)
 
--- a trail that keeps them where one of these faults needs them finds the evidence of each
-pub enough-found : (t : SessionTrail) (wanted : FaultMap) → is_some t.subscriptions ≡ any_needs wanted → (k : ℕ) (r : Rule) → is_some (fault_at wanted k r) ≡ true → is_found r ≡ true → finds t r ≡ true
-enough-found t wanted enough k r there finds_it = ap (λ b. b && (not (needs_subscriptions r) || is_some t.subscriptions)) finds_it ∙ go (needs_subscriptions r) refl
+-- a trail that keeps what one of these faults needs finds the evidence of each
+pub enough-found : (t : SessionTrail) (wanted : FaultMap) → is_some t.subscriptions ≡ any_needs Standing wanted → is_some t.matching ≡ any_needs Asked wanted → (k : ℕ) (r : Rule) → is_some (fault_at wanted k r) ≡ true → is_found r ≡ true
+    → finds t r ≡ true
+enough-found t wanted enough enough_asked k r there finds_it =
+    ap (λ b. b && cond (needs_standing r) (is_some t.subscriptions) (cond (needs_asked r) (is_some t.matching) true)) finds_it ∙ go (needs_standing r) refl (needs_asked r) refl
   where
-    go : (b : Bool) → needs_subscriptions r ≡ b → (not b || is_some t.subscriptions) ≡ true
-    go false is = refl
-    go true is =
-        enough ∙ needed k r is (entries wanted) (sym (is_some-find key_cmp (record { position = k; rule = r }) (entries wanted)) ∙ sym (ap is_some (get-entries wanted (record { position = k; rule = r }))) ∙ there)
+    some_needs : (need : Need) → needs need r ≡ true → any_needs need wanted ≡ true
+    some_needs need is = needed need k r is (entries wanted) (sym (is_some-find key_cmp (record { position = k; rule = r }) (entries wanted)) ∙ sym (ap is_some (get-entries wanted (record { position = k; rule = r }))) ∙ there)
+
+    go : (a : Bool) → needs_standing r ≡ a → (b : Bool) → needs_asked r ≡ b → cond a (is_some t.subscriptions) (cond b (is_some t.matching) true) ≡ true
+    go true is b other = enough ∙ some_needs Standing is
+    go false never true is = enough_asked ∙ some_needs Asked is
+    go false never false none = refl
 
 -- ---- one event more
 

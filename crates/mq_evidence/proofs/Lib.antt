@@ -16,6 +16,7 @@ pub mod Exports
 pub mod OvertakingLaws
 pub mod SubscribedLaws
 pub mod TopicLaws
+pub mod MatchingLaws
 pub mod SettlingLaws
 pub mod CeilingLaws
 pub mod ConnectionLaws

@@ -23,5 +23,6 @@ pub mod Unsettled
 pub mod Settling
 pub mod Ceilings
 pub mod Subscriptions
+pub mod Matching
 pub mod ConnectionTrails
 pub mod Passing

@@ -16,7 +16,7 @@ ghost use Rattle.mq_evidence.specs.Trailing.{IsTrail, IsExplaining, IsNext, expl
 
 use crate::findings::Findings;
 use crate::trail::SessionTrail;
-use crate::wanted::{any_on_filters, next_after};
+use crate::wanted::{Need, any_needs, next_after};
 use mq_log::Place3;
 use mq_rules::{Fate, Faults, Memory, Note, Tested};
 use std::alloc::Global;
@@ -37,11 +37,12 @@ impl Explaining {
         ensures wanted { result.wanted ≡ wanted }
         ensures agrees { IsExplaining result tested (Some Void) [] }
     {
-        let keeps_filters = any_on_filters(&wanted);
+        let keeps_standing = any_needs(Need::Standing, &wanted);
+        let keeps_asked = any_needs(Need::Asked, &wanted);
         Explaining {
             wanted,
             next: 0,
-            trail: SessionTrail::new(alloc, tested, keeps_filters),
+            trail: SessionTrail::new(alloc, tested, keeps_standing, keeps_asked),
             findings: Findings::new(alloc),
         }
     }

@@ -1,5 +1,6 @@
-//! The last SUBSCRIBE of each Topic Filter that stands whatever comes (MQTT 5.0, sections 3.8.4 and
-//! 4.7): for the evidence of B02.
+//! The last SUBSCRIBE of each Topic Filter (MQTT 5.0, sections 3.8.4 and 4.7): of those that stand
+//! whatever comes for the evidence of B02, of all that were asked for for that of B09, P02, R01 and
+//! R02.
 ghost use Rattle.std.specs.Prelude.{◌≡◌, ◌∷◌, [], ◌||◌, ◌&&◌, nat_le, ℕ, Bool, true, None, List, OnOk, cond};
 ghost use Rattle.std.specs.List.{list_any};
 ghost use Rattle.std.specs.String.{string_bytes, string_eq};
@@ -118,7 +119,7 @@ fn later_if_matching(best: Option<u32>, filter: &str, position: u32, topic: &str
 }
 
 impl LastRequests {
-    /// No filter stands.
+    /// There is no filter.
     pub fn new(alloc: Global) -> Self
         ensures { result ≡ [] }
     {

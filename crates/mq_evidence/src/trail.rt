@@ -10,7 +10,7 @@ ghost use Rattle.mq_rules.specs.declared.note.Seen.{Seen};
 ghost use Rattle.mq_rules.specs.Moments.{newest};
 ghost use Rattle.mq_rules.specs.Under.{seen, IsUnder, fate_before};
 ghost use Rattle.mq_rules.specs.declared.role.Role.{Role as TheRole};
-ghost use Rattle.mq_evidence.specs.Evidence.{found, reason, by_asked, by_order};
+ghost use Rattle.mq_evidence.specs.Evidence.{found, reason, by_asked, by_order, by_matching};
 ghost use Rattle.mq_evidence.specs.Stretches.{Stretches, stretches};
 ghost use Rattle.mq_evidence.specs.Senders.{IsSenders};
 ghost use Rattle.mq_evidence.specs.Overtaking.{opened_under};
@@ -32,6 +32,7 @@ use crate::counters::Counters;
 use crate::exchange::Exchange;
 use crate::findings::Findings;
 use crate::handshake::Handshake;
+use crate::matching::{Matching, matching_if, take_matching};
 use crate::overtaking::Overtaking;
 use crate::received::Received;
 use crate::senders::Senders;
@@ -59,14 +60,19 @@ pub struct SessionTrail {
     /// The Topic Filters of the session, and the topics of what is sent. They are much, and only
     /// the evidence of B01 and B02 needs them: a trail that isn't asked for it keeps none.
     subscriptions: Option<Subscriptions>,
+    /// The last SUBSCRIBE of each Topic Filter that was asked for in the session. Only the evidence
+    /// of B09, P02, R01 and R02 needs it: a trail that isn't asked for it keeps none.
+    matching: Option<Matching>,
 }
 
 impl SessionTrail {
     /// Before any event, for this tested end. It finds evidence of B01 and B02 only if it is to
-    /// keep Topic Filters.
-    pub fn new(alloc: Global, tested: Tested, keeps_filters: bool) -> Self
+    /// keep the Topic Filters that stand, and of B09, P02, R01 and R02 only if it is to keep those
+    /// that were asked for.
+    pub fn new(alloc: Global, tested: Tested, keeps_standing: bool, keeps_asked: bool) -> Self
         ensures agrees { IsTrail result tested (Some Void) [] }
-        ensures keeps { is_some result.subscriptions ≡ keeps_filters }
+        ensures keeps { is_some result.subscriptions ≡ keeps_standing }
+        ensures keeps_asked { is_some result.matching ≡ keeps_asked }
     {
         SessionTrail {
             role: tested.role,
@@ -79,7 +85,8 @@ impl SessionTrail {
             waiting: Waiting::new(alloc),
             received: Received::new(alloc),
             overtaking: Overtaking::new(alloc),
-            subscriptions: kept_if(alloc, keeps_filters),
+            subscriptions: kept_if(alloc, keeps_standing),
+            matching: matching_if(alloc, keeps_asked),
         }
     }
 
@@ -90,6 +97,7 @@ impl SessionTrail {
     /// `Memory` if there is no memory for what it keeps. Its state is then of no use.
     pub fn take(&mut self, at: Place3, fate: Fate, note: &Note) -> Result<(), Memory>
         ensures keeps { OnOk result (is_some self.new.subscriptions ≡ is_some self.old.subscriptions) }
+        ensures keeps_asked { OnOk result (is_some self.new.matching ≡ is_some self.old.matching) }
         ensures agrees { OnOk result ((tested : TheTested) (decided : ℕ) (past : List Seen) → IsUnder tested fate decided (seen at note.now) past → IsTrail self.old tested (fate_before tested fate (seen at note.now) past) past → IsTrail self.new tested (Some fate) (seen at note.now ∷ past)) }
     {
         let turn = self.session.turn(at, fate, note);
@@ -103,6 +111,7 @@ impl SessionTrail {
         self.waiting.take(turn, note)?;
         self.received.take(turn, note)?;
         take_if_kept(&mut self.subscriptions, turn, note)?;
+        take_matching(&mut self.matching, turn, note)?;
         self.session.take(fate, note);
         Ok(())
     }
@@ -186,6 +195,16 @@ impl SessionTrail {
         };
         let evidence = subscriptions.of_exceeding(note)?;
         Ok(Some(evidence))
+    }
+
+    // That of B09, P02, R01 and R02, if the filters that were asked for are kept.
+    fn of_delivering(&self, note: &Note) -> Option<Evidence>
+        ensures { (tested : TheTested) (at : ThePlace) (fate : TheFate) (past : List Seen) → IsTrail self.now tested (Some fate) past → result ≡ only (is_some self.now.matching) (Some (found (by_matching tested.role) (Some fate) None (newest (seen at note.now) past))) }
+    {
+        match &self.matching {
+            Some(matching) => Some(matching.of_delivering(note)),
+            None => None,
+        }
     }
 
     // That of E1A, E2A and E4A to E6A: what became of what the event answers.
@@ -282,6 +301,10 @@ impl SessionTrail {
             Rule::B05 => Some(waiting.requests.of_granting(note)),
             Rule::B06 => Some(waiting.requests.of_untruth(note)),
             Rule::B07 => Some(waiting.requests.of_untruth(note)),
+            Rule::B09 => self.of_delivering(note),
+            Rule::P02 => self.of_delivering(note),
+            Rule::R01 => self.of_delivering(note),
+            Rule::R02 => self.of_delivering(note),
             Rule::L1 => Some(self.of_releasing(note)),
             Rule::L2 => Some(self.of_releasing_again(note)),
             Rule::L3 => Some(self.of_completing(note)),
@@ -290,8 +313,9 @@ impl SessionTrail {
     }
 
     /// What a fault of this statement at an event conflicts with, if it is one of those whose
-    /// evidence it finds: those on sessions, B01 and B02 only if it keeps Topic Filters. It is
-    /// asked before the event is taken in.
+    /// evidence it finds: those on sessions, B01 and B02 only if it keeps the Topic Filters that
+    /// stand, B09, P02, R01 and R02 only if it keeps those that were asked for. It is asked before
+    /// the event is taken in.
     ///
     /// # Errors
     ///

@@ -1,23 +1,34 @@
 //! The faults that are to be explained: what they need, and where the next one is.
 ghost use Rattle.std.specs.Prelude.{◌≡◌};
-ghost use Rattle.mq_evidence.specs.Trailing.{IsNext, any_needs, needs_subscriptions};
+ghost use Rattle.mq_evidence.specs.Trailing.{IsNext, any_needs as any_of, needs as of_need};
 
 use mq_rules::{Faults, Rule};
 
-// Whether the evidence of a statement needs the Topic Filters that stand, or wait for their SUBACK.
-fn is_on_filters(rule: Rule) -> bool
-    ensures { result ≡ needs_subscriptions rule }
-{
-    matches!(rule, Rule::B01 | Rule::B02)
+/// What is kept only if the evidence of a fault needs it.
+#[derive(Clone, Copy)]
+pub enum Need {
+    /// The Topic Filters that stand, or wait for their SUBACK.
+    Standing,
+    /// The Topic Filters that were asked for.
+    Asked,
 }
 
-/// Whether the evidence of one of these faults needs the Topic Filters that stand, or wait for
-/// their SUBACK.
-pub fn any_on_filters(wanted: &Faults) -> bool
-    ensures { result ≡ any_needs wanted.now }
+// Whether the evidence of a statement needs this.
+fn needs(need: Need, rule: Rule) -> bool
+    ensures { result ≡ of_need need rule }
+{
+    match need {
+        Need::Standing => matches!(rule, Rule::B01 | Rule::B02),
+        Need::Asked => matches!(rule, Rule::B09 | Rule::P02 | Rule::R01 | Rule::R02),
+    }
+}
+
+/// Whether the evidence of one of these faults needs this.
+pub fn any_needs(need: Need, wanted: &Faults) -> bool
+    ensures { result ≡ any_of need wanted.now }
 {
     for (key, _) in wanted.iter() {
-        if is_on_filters(key.rule) {
+        if needs(need, key.rule) {
             return true;
         }
     }

@@ -84,6 +84,37 @@ fn explains_what_an_unsuback_may_say(rt: HostRuntime) {
     assert!(rt; explanation(Rule::B07).starts_with(deleted));
 }
 
+// Statements on one PUBLISH: on its topic, its QoS, its Subscription Identifier and its RETAIN.
+static OF_DELIVERIES: [(Rule, &str); 5] = [
+    (
+        Rule::B08,
+        "B08 server MQTT-3.3.2-3\nA PUBLISH from the server matches a subscription, where some are shared.\n\nWhy: ",
+    ),
+    (
+        Rule::B09,
+        "B09 server MQTT-3.8.4-8,MQTT-4.8.2-3\nA PUBLISH isn't at a QoS above what was granted, where some are shared.\n\nWhy: ",
+    ),
+    (
+        Rule::P02,
+        "P02 server MQTT-3.3.4-3\nA PUBLISH has a Subscription Identifier, if each matching subscription has.\n\nWhy: ",
+    ),
+    (
+        Rule::R01,
+        "R01 server MQTT-3.3.1-11,MQTT-3.3.1-12\nRETAIN is 0 where no matching subscription asks for anything else.\n\nWhy: ",
+    ),
+    (
+        Rule::R02,
+        "R02 server sec-4.8.2\nNo retained message is sent for a shared subscription.\n\nWhy: ",
+    ),
+];
+
+#[test]
+fn explains_what_is_delivered(rt: HostRuntime) {
+    for (rule, start) in &OF_DELIVERIES {
+        assert!(rt; explanation(*rule).starts_with(*start), "{rule:?}");
+    }
+}
+
 // Two statements that are easily taken for one another.
 #[test]
 fn explains_resends_on_a_connection_and_after_a_pubrel(rt: HostRuntime) {

@@ -104,7 +104,7 @@ applies_B06 role f k = is_unsubscribed_so role f k (λ u asked codes. some_coded
 unfoldable pub breaks_B06 : Role → Fate → Moment → Bool
 breaks_B06 role f k = is_unsubscribed_so role f k (λ u asked codes. some_coded (λ stands code. stands && is_denied code) (subscribed_each (stood_until role f k u) asked) codes)
 
--- B07: whenever an UNSUBACK says of a filter that its subscription was deleted, or of one that was never subscribed that there was none, it was subscribed if it was deleted.
+-- B07: whenever an UNSUBACK says of a filter that its subscription was deleted, or of a filter that was never subscribed that there was none, each filter that it says was deleted was subscribed.
 unfoldable pub applies_B07 : Role → Fate → Moment → Bool
 applies_B07 role f k = is_unsubscribed_so role f k (λ u asked codes. some_coded (λ g code. is_deleted code || (is_denied code && not (was_subscribed role f k g.filter))) asked codes)
 

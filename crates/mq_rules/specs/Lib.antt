@@ -18,6 +18,7 @@ pub mod Exchanges
 pub mod Releases
 pub mod Subscriptions
 pub mod FurtherSubscriptions
+pub mod MatchingSubscriptions
 pub mod Rules
 pub mod Bindings
 pub mod Statements

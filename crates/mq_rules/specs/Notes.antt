@@ -461,6 +461,9 @@ sent_connack note = option_and_then connack_in (sent_fields note)
 abbrev pub sent_wishes : Note → Option WishesNote
 sent_wishes note = option_and_then wishes_in (sent_fields note)
 
+abbrev pub received_wishes : Note → Option WishesNote
+received_wishes note = option_and_then wishes_in (received_fields note)
+
 abbrev pub sent_receipt_code : Note → Option ℕ
 sent_receipt_code note = option_and_then receipt_code_in (sent_fields note)
 

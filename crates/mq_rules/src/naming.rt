@@ -127,6 +127,12 @@ impl Rule {
             Rule::B05 => "A SUBACK grants no more than was asked for.",
             Rule::B06 => "No UNSUBACK says of a subscription that it doesn't exist.",
             Rule::B07 => "No UNSUBACK says that a filter was deleted which was never subscribed.",
+            Rule::B08 => "A PUBLISH from the server matches a subscription, where some are shared.",
+            Rule::B09 => "A PUBLISH isn't at a QoS above what was granted, where some are shared.",
+            Rule::P02 =>
+                "A PUBLISH has a Subscription Identifier, if each matching subscription has.",
+            Rule::R01 => "RETAIN is 0 where no matching subscription asks for anything else.",
+            Rule::R02 => "No retained message is sent for a shared subscription.",
             Rule::F01 => "A new PUBLISH has RETAIN 0 where Retain Available is 0.",
             Rule::F02 => "No filter has a wildcard where the server takes none.",
             Rule::F03 => "No SUBSCRIBE has a Subscription Identifier where the server takes none.",

@@ -180,6 +180,20 @@ pub enum Rule {
     /// No UNSUBACK says that a filter was deleted which was never subscribed (MQTT 5.0, section
     /// 3.11.3).
     B07,
+    /// A PUBLISH from the server matches a subscription, where some are shared (MQTT 5.0, section
+    /// 3.3.2.1).
+    B08,
+    /// A PUBLISH isn't at a QoS above what was granted, where some are shared (MQTT 5.0, sections
+    /// 3.8.4 and 4.8.2).
+    B09,
+    /// A PUBLISH has a Subscription Identifier, if each matching subscription has (MQTT 5.0,
+    /// section 3.3.4).
+    P02,
+    /// RETAIN is 0 where no matching subscription asks for anything else (MQTT 5.0, section
+    /// 3.3.1.3).
+    R01,
+    /// No retained message is sent for a shared subscription (MQTT 5.0, section 4.8.2).
+    R02,
     /// A new PUBLISH has RETAIN 0 where Retain Available is 0 (MQTT 5.0, section 3.2.2.3.5).
     F01,
     /// No filter has a wildcard where the server takes none (MQTT 5.0, section 3.2.2.3.11).

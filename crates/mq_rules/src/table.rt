@@ -39,7 +39,7 @@ pub enum Judged {
 pub type Row = (Rule, &'static str, Ends, &'static str, &'static str, Judged);
 
 /// Each statement's row, in the order of reports.
-pub const TABLE: [Row; 96] = [
+pub const TABLE: [Row; 101] = [
     (W01, "W01", Both, "MQTT-2.1.3-1", "MQTT-2.1.3-1", Always),
     (W02, "W02", Both, "sec-2.1.2", "sec-2.1.2", Always),
     (W03, "W03", Both, "MQTT-1.5.5-1", "MQTT-1.5.5-1", Always),
@@ -145,6 +145,25 @@ pub const TABLE: [Row; 96] = [
     (B05, "B05", OnlyServer, "", "sec-3.9.3", OnRequest),
     (B06, "B06", OnlyServer, "", "MQTT-3.10.4-1", OnRequest),
     (B07, "B07", OnlyServer, "", "sec-3.11.3", OnRequest),
+    (B08, "B08", OnlyServer, "", "MQTT-3.3.2-3", OnRequest),
+    (
+        B09,
+        "B09",
+        OnlyServer,
+        "",
+        "MQTT-3.8.4-8,MQTT-4.8.2-3",
+        OnRequest,
+    ),
+    (P02, "P02", OnlyServer, "", "MQTT-3.3.4-3", OnRequest),
+    (
+        R01,
+        "R01",
+        OnlyServer,
+        "",
+        "MQTT-3.3.1-11,MQTT-3.3.1-12",
+        OnRequest,
+    ),
+    (R02, "R02", OnlyServer, "", "sec-4.8.2", OnRequest),
     (F01, "F01", OnlyClient, "MQTT-3.2.2-14", "", OnRequest),
     (F02, "F02", OnlyClient, "sec-3.2.2.3.11", "", OnRequest),
     (F03, "F03", OnlyClient, "sec-3.2.2.3.12", "", OnRequest),
@@ -209,7 +228,7 @@ pub const TABLE: [Row; 96] = [
 ];
 
 /// The statements, in the order of reports.
-const RULES: [Rule; 96] = [
+const RULES: [Rule; 101] = [
     Rule::W01,
     Rule::W02,
     Rule::W03,
@@ -287,6 +306,11 @@ const RULES: [Rule; 96] = [
     Rule::B05,
     Rule::B06,
     Rule::B07,
+    Rule::B08,
+    Rule::B09,
+    Rule::P02,
+    Rule::R01,
+    Rule::R02,
     Rule::F01,
     Rule::F02,
     Rule::F03,

@@ -8,6 +8,7 @@ pub mod CounterLaws
 pub mod FirstRestLaws
 pub mod WiderLaws
 pub mod SubscriptionLaws
+pub mod MatchingLaws
 pub mod OccasionLaws
 pub mod PlacesLaws
 pub mod TrialLaws

@@ -35,7 +35,7 @@ use Rattle.mq_subscriptions.proofs.AnsweredLaws.{connection-inside, first-stands
 -- ---- which packet an event has
 
 -- what a SUBSCRIBE isn't
-subscribes-alone : (n : Note) (s : Subscription) → received_subscription n ≡ Some s → (received_unsubscription n ≡ None) × (sent_grant n ≡ None) × (is_boundary n ≡ false) × (needs_connection n ≡ true)
+pub subscribes-alone : (n : Note) (s : Subscription) → received_subscription n ≡ Some s → (received_unsubscription n ≡ None) × (sent_grant n ≡ None) × (is_boundary n ≡ false) × (needs_connection n ≡ true)
 subscribes-alone (notes.Recv (items.Packet p)) s h = (go p.fields h, refl, refl, refl)
   where
     go : (fields : PacketFields) → subscription_in fields ≡ Some s → unsubscription_in fields ≡ None
@@ -53,25 +53,25 @@ unsubscribes-alone (notes.Recv (items.Packet p)) s h = (go p.fields h, refl, ref
     go _ h = absurd (cc)
 unsubscribes-alone _ s h = absurd (cc)
 
-grants-alone : (n : Note) (a : Grant) → sent_grant n ≡ Some a → (received_subscription n ≡ None) × (received_unsubscription n ≡ None) × (is_boundary n ≡ false) × (needs_connection n ≡ true)
+pub grants-alone : (n : Note) (a : Grant) → sent_grant n ≡ Some a → (received_subscription n ≡ None) × (received_unsubscription n ≡ None) × (is_boundary n ≡ false) × (needs_connection n ≡ true)
 grants-alone (notes.Sent item) a h = (refl, refl, refl, refl)
 grants-alone _ a h = absurd (cc)
 
-boundary-alone : (n : Note) → is_boundary n ≡ true → (received_subscription n ≡ None) × (received_unsubscription n ≡ None) × (sent_grant n ≡ None)
+pub boundary-alone : (n : Note) → is_boundary n ≡ true → (received_subscription n ≡ None) × (received_unsubscription n ≡ None) × (sent_grant n ≡ None)
 boundary-alone notes.Open h = (refl, refl, refl)
 boundary-alone (notes.Close cuts part) h = (refl, refl, refl)
 boundary-alone _ h = absurd (cc)
 
-release-alone : (n : Note) → is_release n ≡ true → (received_subscription n ≡ None) × (received_unsubscription n ≡ None)
+pub release-alone : (n : Note) → is_release n ≡ true → (received_subscription n ≡ None) × (received_unsubscription n ≡ None)
 release-alone (notes.Release identifier) h = (refl, refl)
 release-alone _ h = absurd (cc)
 
-release-causes : (n : Note) → is_release n ≡ true → subscribe_suback.cause n ≡ None
+pub release-causes : (n : Note) → is_release n ≡ true → subscribe_suback.cause n ≡ None
 release-causes (notes.Release identifier) h = refl
 release-causes _ h = absurd (cc)
 
 -- a cause is a SUBSCRIBE that is received under the identifier
-request-of : (i : ℕ) (n : Note) → is_id i (subscribe_suback.cause n) ≡ true → (s : Subscription) × (received_subscription n ≡ Some s)
+pub request-of : (i : ℕ) (n : Note) → is_id i (subscribe_suback.cause n) ≡ true → (s : Subscription) × (received_subscription n ≡ Some s)
 request-of i n h = go (received_subscription n) refl (sym (subscribes_so.causes_are n i) ∙ h)
   where
     go : (o : Option Subscription) → received_subscription n ≡ o → names i (option_map subscription_count o) ≡ true → (s : Subscription) × (received_subscription n ≡ Some s)
@@ -469,16 +469,16 @@ module _ (tested : Tested) (fate : Fate) (e : Seen) (past : List Seen) (on : IsO
 
 -- ---- requests that wait
 
-names-requests : (i : ℕ) (o : Option Subscription) → names i (option_map subscription_count o) ≡ requests_under i o
+pub names-requests : (i : ℕ) (o : Option Subscription) → names i (option_map subscription_count o) ≡ requests_under i o
 names-requests i None = refl
 names-requests i (Some s) = refl
 
-names-answers : (i : ℕ) (o : Option Grant) → names i (option_map grant_count o) ≡ answers_under i o
+pub names-answers : (i : ℕ) (o : Option Grant) → names i (option_map grant_count o) ≡ answers_under i o
 names-answers i None = refl
 names-answers i (Some a) = refl
 
 -- what is kept under an identifier, on an accepted connection
-first-step : {K : Type 0} (acc bound cause answer : Bool) (new old : Option K) → (bound ≡ true → cause ≡ false) → cond bound None (cond acc (first_next false cause answer new (only acc old)) (only acc old)) ≡ only acc (first_next bound cause answer new old)
+pub first-step : {K : Type 0} (acc bound cause answer : Bool) (new old : Option K) → (bound ≡ true → cause ≡ false) → cond bound None (cond acc (first_next false cause answer new (only acc old)) (only acc old)) ≡ only acc (first_next bound cause answer new old)
 first-step true true cause true new old h = sym (ap (λ b. cond b new None) (h refl))
 first-step true true cause false new old h = sym (ap (λ b. cond b new None) (h refl))
 first-step false true cause answer new old h = refl
@@ -539,7 +539,7 @@ module _ (tested : Tested) (fate : Fate) (e : Seen) (past : List Seen) (on : IsO
           (removing_packet (length past + 1) e.note (λ f. (is f ∙ ap (λ t. state_in past f (session tested.role t past)) (earlier_fate h)) j) i (only (accepts fate) (found_first unsubscribe_unsuback keeps i past)))
           (only (accepts fate) (found_first unsubscribe_unsuback keeps i past)))
 
-  unclear-step : some (λ m. receives_unclear (note m)) (since_began tested.role (Some fate) (e ∷ past)) ≡ unclear_next fate e.note (some (λ m. receives_unclear (note m)) (since_began tested.role (fate_before tested fate e past) past))
+  pub unclear-step : some (λ m. receives_unclear (note m)) (since_began tested.role (Some fate) (e ∷ past)) ≡ unclear_next fate e.note (some (λ m. receives_unclear (note m)) (since_began tested.role (fate_before tested fate e past) past))
   unclear-step = ap (λ b. receives_unclear e.note || b) (go (is_open e.note) (begins (Some fate)))
     where
       unclear_in : List Moment → Bool

@@ -11,6 +11,8 @@ pub mod AnsweredLaws
 pub mod DeletionLaws
 pub mod DeletingLaws
 pub mod DeletionSizeLaws
+pub mod MatchingLaws
+pub mod MatchingSizeLaws
 pub mod DeliveryLaws
 pub mod KeepLaws
 pub mod ConcernLaws
@@ -21,4 +23,7 @@ pub mod AwaitedLaws
 pub mod StandingSizeLaws
 pub mod AskingSizeLaws
 pub mod DeliveryPlacesLaws
+pub mod BesideLaws
+pub mod VerdictLaws
+pub mod BlamingLaws
 pub mod Exports

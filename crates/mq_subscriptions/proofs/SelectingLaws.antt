@@ -2,7 +2,7 @@
 use Rattle.std.proofs.Common.{◌≡◌, ℕ, ◌==◌, Bool, true, false, ◌&&◌, ◌||◌, not, length, refl, ap, sym, ◌∙◌}
 use Rattle.std.specs.Prelude.{is_some, Option, None, Some, option_map}
 use Rattle.mq_rules.specs.declared.role.Tested.{Tested}
-use Rattle.mq_rules.specs.declared.rule.Rule.TheVariants.{B01, B05, B06}
+use Rattle.mq_rules.specs.declared.rule.Rule.TheVariants.{B01, B05, B06, B08}
 use Rattle.mq_rules.specs.declared.note.Note.{Note}
 use Rattle.mq_rules.specs.declared.note.Note.TheVariants as notes
 use Rattle.mq_rules.specs.declared.note.ItemNote.TheVariants as items
@@ -15,13 +15,15 @@ use Rattle.mq_log.specs.declared.kind.Direction.TheVariants.{Sent, Recv}
 use Rattle.mq_rules.specs.declared.bare.Bare.{Bare}
 use Rattle.mq_rules.specs.declared.bare.BareFields.{BareFields}
 use Rattle.mq_rules.specs.declared.bare.BareFields.TheVariants as bares
-use Rattle.mq_rules.specs.Notes.{bare_note, bare_fields, note_of_bare, is_boundary, received_subscription, received_unsubscription, sent_grant, sent_deletion, receives_unclear}
+use Rattle.mq_rules.specs.Notes.{bare_note, bare_fields, note_of_bare, is_boundary, received_subscription, received_unsubscription, sent_grant, sent_connack, sent_deletion, sent_publish, receives_unclear}
 use Rattle.mq_rules.specs.Rules.{binds}
 use Rattle.mq_rules.proofs.Exports.{and_false}
-use Rattle.mq_subscriptions.specs.Concerns.{concerns_count, concerns_deliveries, concerns_grants, has_request, concerns_deletions}
+use Rattle.mq_subscriptions.specs.Concerns.{concerns_count, concerns_deliveries, concerns_grants, has_request, concerns_deletions, has_delivery, concerns_matching}
 use Rattle.mq_subscriptions.specs.Countings.{subscribes, unsubscribes, subscription_count, grant_count, subscribe_request, suback_reply, unsubscribe_request, unsuback_reply}
 use Rattle.mq_fates.specs.Selecting.{may_concern_subscriptions, delivers_or_grants, subscribes_or_not}
+use Rattle.mq_rules.specs.Pasts.{set_alias}
 use Rattle.mq_fates.proofs.Exports.{neither, nothing, only-none, received, sent}
+use Rattle.mq_subscriptions.proofs.VerdictLaws.{binds-B08, binds-delivery}
 
 -- ---- subscriptions
 
@@ -97,9 +99,9 @@ requests-unconcerned n h k =
     mapped h None = refl
     mapped h (Some a) = refl
 
-pub subscriptions-unconcerned : (tested : Tested) (bound deleting : Bool) → bound ≡ binds B01 tested → deleting ≡ binds B06 tested → (n : Note) → (may_concern_subscriptions bound n || (deleting && receives_unclear n)) ≡ false
+requests-too : (tested : Tested) (bound deleting : Bool) → bound ≡ binds B01 tested → deleting ≡ binds B06 tested → (n : Note) → (may_concern_subscriptions bound n || (deleting && receives_unclear n)) ≡ false
     → (concerns_deliveries tested n || (concerns_count subscribes n || (concerns_count unsubscribes n || (concerns_grants tested n || concerns_deletions tested n)))) ≡ false
-subscriptions-unconcerned tested bound deleting is also n h =
+requests-too tested bound deleting is also n h =
     let parts = neither (may_concern_subscriptions bound n) (deleting && receives_unclear n) h in
     let answers = answers-unconcerned tested bound is n parts.0 in
     go (concerns_deliveries tested n) (concerns_count subscribes n) (concerns_count unsubscribes n) (binds B05 tested) (binds B06 tested) (has_request n) answers
@@ -116,6 +118,53 @@ subscriptions-unconcerned tested bound deleting is also n h =
     go false true u b c r h k = absurd (cc)
     go false false true b c r h k = absurd (cc)
     go false false false b c r h k = last b c r k
+
+-- neither does it concern what is delivered, unless a CONNACK is sent or such bytes came
+matching-too : (tested : Tested) (n : Note) → concerns_deliveries tested n ≡ false → (binds B08 tested ≡ true → (receives_unclear n || is_some (sent_connack n)) ≡ false) → concerns_matching tested n ≡ false
+matching-too tested n h told = go (binds B08 tested) refl
+  where
+    whole : (b : Bool) → (b && true) ≡ b
+    whole true = refl
+    whole false = refl
+
+    go : (b : Bool) → binds B08 tested ≡ b → (b && has_delivery n) ≡ false
+    go false is = refl
+    go true is =
+        let h1 = neither (is_boundary n) (is_some (received_subscription n) || (is_some (sent_grant n) || (is_some (set_alias n) || (is_some (sent_publish n) && binds B01 tested)))) h in
+        let h2 = neither (is_some (received_subscription n)) (is_some (sent_grant n) || (is_some (set_alias n) || (is_some (sent_publish n) && binds B01 tested))) h1.1 in
+        let h3 = neither (is_some (sent_grant n)) (is_some (set_alias n) || (is_some (sent_publish n) && binds B01 tested)) h2.1 in
+        let h4 = neither (is_some (set_alias n)) (is_some (sent_publish n) && binds B01 tested) h3.1 in
+        let h5 = neither (receives_unclear n) (is_some (sent_connack n)) (told is) in
+        let silent : is_some (sent_publish n) ≡ false = sym (whole (is_some (sent_publish n))) ∙ ap (λ b. is_some (sent_publish n) && b) (sym (binds-delivery tested.role tested.releases tested.further is)) ∙ h4.1 in
+        ap (λ b. b || ((is_some (received_subscription n) || is_some (sent_grant n)) || ((is_some (sent_publish n) || is_some (sent_connack n)) || receives_unclear n))) h1.0
+        ∙ ap (λ b. (b || is_some (sent_grant n)) || ((is_some (sent_publish n) || is_some (sent_connack n)) || receives_unclear n)) h2.0
+        ∙ ap (λ b. b || ((is_some (sent_publish n) || is_some (sent_connack n)) || receives_unclear n)) h3.0
+        ∙ ap (λ b. (b || is_some (sent_connack n)) || receives_unclear n) silent
+        ∙ ap (λ b. b || receives_unclear n) h5.1
+        ∙ h5.0
+
+pub subscriptions-unconcerned : (tested : Tested) (bound further : Bool) → bound ≡ binds B01 tested → further ≡ binds B06 tested → (n : Note) → (may_concern_subscriptions bound n || (further && (receives_unclear n || is_some (sent_connack n)))) ≡ false
+    → (concerns_deliveries tested n || (concerns_count subscribes n || (concerns_count unsubscribes n || (concerns_grants tested n || (concerns_deletions tested n || concerns_matching tested n))))) ≡ false
+subscriptions-unconcerned tested bound further is also n h =
+    let parts = neither (may_concern_subscriptions bound n) (further && (receives_unclear n || is_some (sent_connack n))) h in
+    let first = requests-too tested bound further is also n (clearer (may_concern_subscriptions bound n) further (receives_unclear n) (is_some (sent_connack n)) h) in
+    let deliveries = (neither (concerns_deliveries tested n) (concerns_count subscribes n || (concerns_count unsubscribes n || (concerns_grants tested n || concerns_deletions tested n))) first).0 in
+    let last = matching-too tested n deliveries (λ judged. sym (ap (λ b. b && (receives_unclear n || is_some (sent_connack n))) (also ∙ sym (binds-B08 tested.role tested.releases tested.further) ∙ judged)) ∙ parts.1) in
+    add (concerns_deliveries tested n) (concerns_count subscribes n) (concerns_count unsubscribes n) (concerns_grants tested n) (concerns_deletions tested n) (concerns_matching tested n) first last
+  where
+    clearer : (m d r c : Bool) → (m || (d && (r || c))) ≡ false → (m || (d && r)) ≡ false
+    clearer true d r c h = absurd (cc)
+    clearer false false r c h = refl
+    clearer false true true c h = absurd (cc)
+    clearer false true false c h = refl
+
+    add : (d a u g x m : Bool) → (d || (a || (u || (g || x)))) ≡ false → m ≡ false → (d || (a || (u || (g || (x || m))))) ≡ false
+    add true a u g x m h k = absurd (cc)
+    add false true u g x m h k = absurd (cc)
+    add false false true g x m h k = absurd (cc)
+    add false false false true x m h k = absurd (cc)
+    add false false false false true m h k = absurd (cc)
+    add false false false false false m h k = k
 
 -- ---- a bare packet is no SUBSCRIBE or UNSUBSCRIBE, and answers none
 
@@ -155,3 +204,18 @@ clear b = clear-note b.direction b.size b.fields
 
 pub deletions-unconcerned : (tested : Tested) (b : Bare) → concerns_deletions tested (note_of_bare b) ≡ false
 deletions-unconcerned tested b = ap (λ t. binds B06 tested && t) (requests-unconcerned (note_of_bare b) (counts-unconcerned b) (clear b)) ∙ and_false (binds B06 tested)
+
+connackless-note : (direction : Direction) (size : ℕ) (fields : BareFields) → sent_connack (bare_note direction size (bare_fields direction fields)) ≡ None
+connackless-note Sent size (bares.Publish identifier qos duplicate topic) = refl
+connackless-note Sent size (bares.Puback identifier code) = refl
+connackless-note Sent size (bares.Pubrec identifier code) = refl
+connackless-note Sent size (bares.Pubrel identifier code) = refl
+connackless-note Sent size (bares.Pubcomp identifier code) = refl
+connackless-note Sent size bares.Pingreq = refl
+connackless-note Sent size bares.Pingresp = refl
+connackless-note Recv size fields = refl
+
+-- nor bytes that may be a request, nor a CONNACK
+pub bare-untold : (b : Bare) → (receives_unclear (note_of_bare b) || is_some (sent_connack (note_of_bare b))) ≡ false
+unfolding note_of_bare
+bare-untold b = ap (λ t. t || is_some (sent_connack (note_of_bare b))) (clear b) ∙ ap is_some (connackless-note b.direction b.size b.fields)

@@ -161,7 +161,7 @@ pub some-alike : (p q : Moment → Bool) (ms : List Moment) → ((j : Moment) �
 some-alike p q [] h = refl
 some-alike p q (m ∷ ms) h = ap (λ b. b || some p ms) (h m (inl refl)) ∙ ap (λ b. q m || b) (some-alike p q ms (λ j a. h j (inr a)))
 
-some-either : (p q : Moment → Bool) (ms : List Moment) → some (λ j. p j || q j) ms ≡ (some p ms || some q ms)
+pub some-either : (p q : Moment → Bool) (ms : List Moment) → some (λ j. p j || q j) ms ≡ (some p ms || some q ms)
 some-either p q [] = refl
 some-either p q (m ∷ ms) = ap (λ b. (p m || q m) || b) (some-either p q ms) ∙ go (p m) (q m) (some p ms)
   where
@@ -171,7 +171,7 @@ some-either p q (m ∷ ms) = ap (λ b. (p m || q m) || b) (some-either p q ms) �
     go false true false = refl
     go false false c = refl
 
-some-none : (ms : List Moment) → some (λ j. false) ms ≡ false
+pub some-none : (ms : List Moment) → some (λ j. false) ms ≡ false
 some-none [] = refl
 some-none (m ∷ ms) = some-none ms
 
@@ -232,11 +232,11 @@ session-some tested f p e past idle =
     first false false n = refl
 
 -- a RELEASE, an OPEN and a CLOSE are no SUBSCRIBE, and an OPEN and a CLOSE no SUBACK
-unsubscribed : (n : Note) → is_release n ≡ true → received_subscription n ≡ None
+pub unsubscribed : (n : Note) → is_release n ≡ true → received_subscription n ≡ None
 unsubscribed (notes.Recv item) h = absurd (cc)
 unsubscribed _ h = refl
 
-boundary-none : (n : Note) → is_boundary n ≡ true → (received_subscription n ≡ None) × (sent_grant n ≡ None)
+pub boundary-none : (n : Note) → is_boundary n ≡ true → (received_subscription n ≡ None) × (sent_grant n ≡ None)
 boundary-none notes.Open h = (refl, refl)
 boundary-none (notes.Close cuts part) h = (refl, refl)
 boundary-none _ h = absurd (cc)
@@ -451,7 +451,7 @@ module _ (tested : Tested) (f : Fate) (e : Seen) (past : List Seen) (on : IsOnCo
           ap (λ b. cond (accepts f) (weighed weigh (option_map asked (received_subscription e.note))) 0 + cond (not (b && begins (Some f))) (total (λ j. weighed weigh (waiting_from (e ∷ past) j)) before) 0) (boundary-parts e.note h).0
           ∙ ap (λ n. cond (accepts f) (weighed weigh (option_map asked (received_subscription e.note))) 0 + n) (within h)
 
-  sharing-is : some asks_to_share (session tested.role (Some f) (e ∷ past)) ≡ sharing_next f e.note (some asks_to_share before)
+  pub sharing-is : some asks_to_share (session tested.role (Some f) (e ∷ past)) ≡ sharing_next f e.note (some asks_to_share before)
   sharing-is = session-some tested f asks_to_share e past (λ r. ap (is_some_and (λ s. list_any is_shared s.filters)) (unsubscribed e.note r))
 
 -- what is neither sent nor received sets no topic
@@ -461,7 +461,7 @@ unset alias (notes.Recv item) h = absurd (cc)
 unset alias _ h = refl
 
 -- the topic that was last set
-topic-is : (alias : ℕ) (e : Seen) (past : List Seen) → IsOnConnection e past → last_set alias (on_open (e ∷ past)) ≡ topic_next e.note alias (last_set alias (on_open past))
+pub topic-is : (alias : ℕ) (e : Seen) (past : List Seen) → IsOnConnection e past → last_set alias (on_open (e ∷ past)) ≡ topic_next e.note alias (last_set alias (on_open past))
 topic-is alias e past on = on_open-fold (last_set alias) (option_or (topic_set alias e.note)) e past (λ ms. refl) (unset alias e.note) on
 
 -- what waits, by two tests that are alike

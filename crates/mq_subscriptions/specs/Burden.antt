@@ -5,7 +5,7 @@ use Rattle.std.specs.Str.{bytes_eq}
 use Rattle.mq_rules.specs.declared.role.Role.{Role}
 use Rattle.mq_rules.specs.declared.role.Tested.{Tested}
 use Rattle.mq_rules.specs.declared.fate.Fate.{Fate}
-use Rattle.mq_rules.specs.declared.rule.Rule.TheVariants.{B06}
+use Rattle.mq_rules.specs.declared.rule.Rule.TheVariants.{B06, B08}
 use Rattle.mq_rules.specs.declared.note.Seen.{Seen}
 use Rattle.mq_rules.specs.declared.text.NotedFilter.{NotedFilter}
 use Rattle.mq_rules.specs.Words.{is_some_and}
@@ -16,6 +16,7 @@ use Rattle.mq_rules.specs.Connections.{connection, on_open, session}
 use Rattle.mq_rules.specs.Exchanges.{Exchange, causes, answers, unsubscribe_unsuback}
 use Rattle.mq_rules.specs.Subscriptions.{Standing, last_set}
 use Rattle.mq_rules.specs.Rules.{binds}
+use Rattle.mq_rules.specs.Wishes.{is_share, shared_filter}
 use Rattle.mq_subscriptions.specs.Standings.{codes_in, standing_by, waiting_from, weighed}
 use Rattle.mq_fates.specs.Holding.{total, number_in}
 
@@ -82,3 +83,29 @@ removed_filters log = total (λ j. cond (is_unanswered unsubscribe_unsuback log 
 -- what is kept of requests
 abbrev pub deletions_burden : Tested → Option Fate → List Seen → ℕ
 deletions_burden tested taken log = cond (binds B06 tested) (requested_count tested.role taken log + asked_filters log + removed_filters log) 0
+
+-- ---- subscriptions, by the filters that topics may match (MQTT 5.0, sections 3.8.4 and 4.8.2): kept if B08 to R02 are judged
+
+-- these filters; and of a shared subscription also that after its ShareName
+abbrev pub texts_of : NotedFilter → List (List ℕ)
+texts_of g = g.filter ∷ cond (is_share g.filter) (shared_filter g.filter ∷ []) []
+
+abbrev pub texts_in : List NotedFilter → List (List ℕ)
+texts_in [] = []
+texts_in (g ∷ gs) = texts_of g ++ texts_in gs
+
+abbrev pub texts_asked : Option Subscription → List (List ℕ)
+texts_asked None = []
+texts_asked (Some s) = texts_in s.filters
+
+abbrev pub subscribed_texts : List Moment → List (List ℕ)
+subscribed_texts [] = []
+subscribed_texts (j ∷ js) = texts_asked (received_subscription (note j)) ++ subscribed_texts js
+
+-- how many different ones the SUBSCRIBEs of the session have
+unfoldable pub subscribed_count : Role → Option Fate → List Seen → ℕ
+subscribed_count role taken log = distinct_count bytes_eq (subscribed_texts (session role taken log))
+
+-- what is kept of subscriptions, and of topics beside those that deliveries are judged by
+abbrev pub matching_burden : Tested → Option Fate → List Seen → ℕ
+matching_burden tested taken log = cond (binds B08 tested) (subscribed_count tested.role taken log + asked_filters log + aliased_ids log) 0

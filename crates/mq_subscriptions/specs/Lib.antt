@@ -3,6 +3,9 @@ pub mod Countings
 pub mod Grantings
 pub mod Standings
 pub mod Deletings
+pub mod Matchings
+pub mod Subscribings
+pub mod Verdicts
 pub mod Grouping
 pub mod Concerns
 pub mod Burden

@@ -6,7 +6,9 @@ use Rattle.mq_rules.specs.KeptOrder.{ids_kept}
 use Rattle.mq_subscriptions.specs.declared.counts.Counts.{Counts}
 use Rattle.mq_subscriptions.specs.declared.deletions.Deletions.{Deletions}
 use Rattle.mq_subscriptions.specs.declared.grants.Grants.{Grants}
+use Rattle.mq_subscriptions.specs.declared.matching.Matching.{Matching}
 use Rattle.mq_subscriptions.specs.declared.subs.Deliveries.{Deliveries}
+use Rattle.mq_subscriptions.specs.declared.subscribed.Subscriptions.{Subscriptions}
 use Rattle.mq_subscriptions.specs.Burden.{at_least_one}
 use Rattle.mq_subscriptions.specs.Deletings.{removes_weigh}
 use Rattle.mq_subscriptions.specs.Standings.{SessionFilters, waits_weight}
@@ -30,3 +32,12 @@ deliveries_weigh s = filters_weigh s.filters + index_map_len s.topics
 -- requests: the filters that they have, the SUBSCRIBEs without their answer, each with its filters, and such UNSUBSCRIBEs, each with its filters and what is kept of these
 abbrev pub deletions_weigh : Deletions → ℕ
 deletions_weigh s = index_map_len s.states + sum_by (λ e. at_least_one (length e.1.filters)) s.waiting.entries + sum_by (λ e. removes_weigh e.1) s.removing.entries
+
+-- subscriptions: the filters of each kind, and the SUBSCRIBEs without their answer, each with its filters
+abbrev pub subscriptions_weigh : Subscriptions → ℕ
+subscriptions_weigh s =
+    (length s.settled.any + length s.settled.unidentified) + (length s.settled.retained + length s.settled.in_vain) + sum_by (λ e. at_least_one (length e.1.filters)) s.waiting.entries
+
+-- subscriptions that match: those of the session, and the topics by their Topic Alias
+abbrev pub matching_weigh : Matching → ℕ
+matching_weigh s = subscriptions_weigh s.subscriptions + index_map_len s.topics

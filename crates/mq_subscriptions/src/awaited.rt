@@ -16,7 +16,7 @@ use std::alloc::Global;
 use std::marker::Model;
 
 /// The lowest Reason Code that refuses (MQTT 5.0, section 2.4).
-const REFUSING: u8 = 0x80;
+pub const REFUSING: u8 = 0x80;
 
 /// A Topic Filter of a SUBSCRIBE that waits, with the QoS that it asks for.
 #[derive(Drop)]
@@ -137,8 +137,8 @@ fn add_granted(
     }
 }
 
-// The first of the Reason Codes that are left, if there is one, and the others.
-fn next_code(codes: &[u8]) -> (Option<u8>, &[u8])
+/// The first of the Reason Codes that are left, if there is one, and the others.
+pub fn next_code(codes: &[u8]) -> (Option<u8>, &[u8])
     ensures first { result.0 ≡ first_code codes.now }
     ensures others { result.1.now ≡ other_codes codes.now }
 {

@@ -160,8 +160,8 @@ fn take_removal(
 
 // ---- events
 
-// Whether bytes that nobody can read have come in the session after an event.
-fn is_unclear(fate: Fate, note: &Note, old: bool) -> bool
+/// Whether bytes that nobody can read have come in the session after an event.
+pub fn is_unclear(fate: Fate, note: &Note, old: bool) -> bool
     ensures { result ≡ deletings.unclear_next fate note.now old }
 {
     note.receives_unclear() || (goes_on(fate, note) && old)

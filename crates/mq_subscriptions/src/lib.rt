@@ -1,4 +1,4 @@
-//! Watchers of the statements on subscriptions: B01 to B07.
+//! Watchers of the statements on subscriptions: B01 to B09, P02, R01 and R02.
 #![tactic(auto)]
 
 mod awaited;
@@ -6,9 +6,12 @@ mod counts;
 mod deletions;
 mod filters;
 mod grants;
+mod matching;
 mod requested;
 mod subs;
 mod subs_all;
+mod subscribed;
+mod topics;
 
 pub use counts::{Counted, Counts, Replies, Subacks, Unsubacks};
 pub use deletions::{DeletionPlaces, Deletions};

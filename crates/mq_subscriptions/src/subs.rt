@@ -21,12 +21,13 @@ ghost use Rattle.mq_rules.specs.Growing.{Gains, GainsWithin};
 ghost use Rattle.mq_filters.specs.Standings.{has_ceiling};
 ghost use Rattle.mq_subscriptions.specs.Burden.{standing_count, asked_filters, aliased_ids};
 ghost use Rattle.mq_subscriptions.specs.Weights.{deliveries_weigh};
-ghost use Rattle.mq_subscriptions.specs.Standings.{sharing_next, topic_next, IsStanding, topic_kept, delivers_so, judged_topic as topic_judged, named_topic as topic_named, IsDelivery, is_unasked as unasked, is_above as above, said_by};
+ghost use Rattle.mq_subscriptions.specs.Standings.{sharing_next, IsStanding, delivers_so, judged_topic as topic_judged, named_topic as topic_named, IsDelivery, is_unasked as unasked, is_above as above, said_by};
 ghost use Rattle.mq_subscriptions.specs.Concerns.{concerns_deliveries};
 
 mod asking;
 
 use crate::filters::{Filters, goes_on};
+use crate::topics::{take_topic, topic_of};
 pub use asking::DeliveryPlaces;
 use indexmap::IndexMap;
 use mq_fates::{Fated, Selective, Taken, judge_by, map_size};
@@ -76,60 +77,14 @@ pub fn asks_for_shared(note: &Note) -> bool
     }
 }
 
-// Whether the session has asked for a shared subscription after an event.
-fn shares(fate: Fate, note: &Note, old: bool) -> bool
+/// Whether the session has asked for a shared subscription after an event.
+pub fn shares(fate: Fate, note: &Note, old: bool) -> bool
     ensures { result ≡ sharing_next fate note.now old }
 {
     (fate.accepts() && asks_for_shared(note)) || (goes_on(fate, note) && old)
 }
 
 // ---- topics
-
-// Keeps the Topic Name that a PUBLISH sets for its Topic Alias (MQTT 5.0, section 3.3.2.3.4).
-fn set_alias(
-    alloc: Global,
-    topics: &mut IndexMap<u16, Text>,
-    publish: &PublishNote,
-) -> Result<(), Memory>
-    ensures { OnOk result ((alias : ℕ) → get nat_eq topics.new alias ≡ option_or (only (is_id alias (only (not (length publish.now.topic == 0)) publish.now.topic_alias)) (Some publish.now.topic)) (get nat_eq topics.old alias)) }
-{
-    if publish.topic.is_empty() {
-        return Ok(());
-    }
-    if let Some(alias) = publish.topic_alias {
-        let topic = Text::of(alloc, publish.topic.as_str())?;
-        topics.insert(alias, topic)?;
-    }
-    Ok(())
-}
-
-// Takes in what an event says of topics.
-fn take_topic(alloc: Global, topics: &mut IndexMap<u16, Text>, note: &Note) -> Result<(), Memory>
-    ensures { OnOk result ((alias : ℕ) → get nat_eq topics.new alias ≡ topic_next note.now alias (get nat_eq topics.old alias)) }
-{
-    if note.is_boundary() {
-        // A large map that is cleared costs its size each time.
-        *topics = IndexMap::new(alloc);
-    }
-    if let Some(publish) = note.sent_publish() {
-        set_alias(alloc, topics, publish)?;
-    }
-    Ok(())
-}
-
-// The topic of a PUBLISH.
-fn topic_of<'a>(publish: &'a PublishNote, topics: &'a IndexMap<u16, Text>) -> Option<&'a str>
-    ensures { option_map (λ topic. topic.now) result ≡ topic_kept (get nat_eq topics.now) publish.now }
-{
-    if !publish.topic.is_empty() {
-        return Some(publish.topic.as_str());
-    }
-    let alias = publish.topic_alias?;
-    match topics.get(&alias) {
-        Some(topic) => Some(topic.as_str()),
-        None => None,
-    }
-}
 
 // The topic of a PUBLISH, if B01 and B02 look at it.
 fn judged_topic<'a>(

@@ -1,27 +1,29 @@
-//! What a server may deliver and how it answers what asks for it: B01 to B07.
-ghost use Rattle.std.specs.Prelude.{◌≡◌, ◌&&◌, ◌||◌, [], Some};
+//! What a server may deliver and how it answers what asks for it: B01 to B09, P02,
+//! R01 and R02.
+ghost use Rattle.std.specs.Prelude.{◌≡◌, ◌&&◌, ◌||◌, [], Some, is_some};
 ghost use Rattle.mq_rules.specs.declared.rule.Rule.TheVariants.{B01, B07};
 ghost use Rattle.mq_rules.specs.declared.fate.Fate.TheVariants.{Void};
 ghost use Rattle.mq_rules.specs.declared.role.Tested.{Tested as TheTested};
-ghost use Rattle.mq_rules.specs.Notes.{note_in, receives_unclear};
+ghost use Rattle.mq_rules.specs.Notes.{note_in, receives_unclear, sent_connack};
 ghost use Rattle.mq_subscriptions.specs.Grouping.{of_subscriptions, on_subscriptions};
 
 use crate::counts::{Counts, Replies, Subacks, Unsubacks};
 use crate::deletions::Deletions;
 use crate::grants::Grants;
+use crate::matching::Matching;
 use crate::subs::Deliveries;
 use mq_fates::{Asks, Discerning, Fated, Selecting, Selective, Taken, fated_apart};
 use mq_log::Place3;
-use mq_rules::{Both, Fate, Faults, Memory, NoteRef, Noted, Rule, Tested};
+use mq_rules::{Both, Fate, Faults, Memory, Note, NoteRef, Noted, Rule, Tested};
 use std::alloc::Global;
 
-/// Watches B01 to B07.
+/// Watches B01 to B09, P02, R01 and R02.
 pub struct Subs {
     watchers: Both<
         Deliveries,
         Both<
             Selecting<Counts<Subacks>>,
-            Both<Selecting<Counts<Unsubacks>>, Both<Selecting<Grants>, Deletions>>,
+            Both<Selecting<Counts<Unsubacks>>, Both<Selecting<Grants>, Both<Deletions, Matching>>>,
         >,
     >,
 }
@@ -51,14 +53,27 @@ fn counting<R: Replies>(alloc: Global, tested: Tested) -> Selecting<Counts<R>>
     Selecting::new(Counts::new(alloc, tested))
 }
 
-// The watchers of statements that are judged only on request, before any event.
-fn on_request(alloc: Global, tested: Tested) -> Both<Selecting<Grants>, Deletions>
-    ensures { ⟦<Both<Selecting<Grants>, Deletions> as Fated>⟧.agrees result tested (Some Void) [] }
+// One of what is granted, before any event.
+fn granting(alloc: Global, tested: Tested) -> Selecting<Grants>
+    ensures { ⟦<Selecting<Grants> as Fated>⟧.agrees result tested (Some Void) [] }
 {
-    Both::new(
-        Selecting::new(Grants::new(alloc, tested)),
-        Deletions::new(alloc, tested),
-    )
+    Selecting::new(Grants::new(alloc, tested))
+}
+
+// The watchers of what an UNSUBACK says, and of the subscriptions that match a delivery, before any
+// event.
+fn deleting_and_matching(alloc: Global, tested: Tested) -> Both<Deletions, Matching>
+    ensures { ⟦<Both<Deletions, Matching> as Fated>⟧.agrees result tested (Some Void) [] }
+{
+    beside(Deletions::new(alloc, tested), Matching::new(alloc, tested))
+}
+
+// The watchers of statements that are judged only on request, before any event.
+fn on_request(alloc: Global, tested: Tested) -> Both<Selecting<Grants>, Both<Deletions, Matching>>
+    ensures { ⟦<Both<Selecting<Grants>, Both<Deletions, Matching>> as Fated>⟧.agrees result tested (Some Void) [] }
+{
+    let others = deleting_and_matching(alloc, tested);
+    beside(granting(alloc, tested), others)
 }
 
 // The watchers of SUBACKs and UNSUBACKs, before any event.
@@ -67,9 +82,9 @@ fn answering(
     tested: Tested,
 ) -> Both<
     Selecting<Counts<Subacks>>,
-    Both<Selecting<Counts<Unsubacks>>, Both<Selecting<Grants>, Deletions>>,
+    Both<Selecting<Counts<Unsubacks>>, Both<Selecting<Grants>, Both<Deletions, Matching>>>,
 >
-    ensures { ⟦<Both<Selecting<Counts<Subacks>>, Both<Selecting<Counts<Unsubacks>>, Both<Selecting<Grants>, Deletions>>> as Fated>⟧.agrees result tested (Some Void) [] }
+    ensures { ⟦<Both<Selecting<Counts<Subacks>>, Both<Selecting<Counts<Unsubacks>>, Both<Selecting<Grants>, Both<Deletions, Matching>>>> as Fated>⟧.agrees result tested (Some Void) [] }
 {
     let others = beside(counting(alloc, tested), on_request(alloc, tested));
     beside(counting(alloc, tested), others)
@@ -87,13 +102,13 @@ impl Subs {
 }
 
 impl Fated for Subs {
-    ghost agrees = { λ s. ⟦<Both<Deliveries, Both<Selecting<Counts<Subacks>>, Both<Selecting<Counts<Unsubacks>>, Both<Selecting<Grants>, Deletions>>>> as Fated>⟧.agrees s.watchers };
+    ghost agrees = { λ s. ⟦<Both<Deliveries, Both<Selecting<Counts<Subacks>>, Both<Selecting<Counts<Unsubacks>>, Both<Selecting<Grants>, Both<Deletions, Matching>>>>> as Fated>⟧.agrees s.watchers };
 
-    ghost judges = { ⟦<Both<Deliveries, Both<Selecting<Counts<Subacks>>, Both<Selecting<Counts<Unsubacks>>, Both<Selecting<Grants>, Deletions>>>> as Fated>⟧.judges };
+    ghost judges = { ⟦<Both<Deliveries, Both<Selecting<Counts<Subacks>>, Both<Selecting<Counts<Unsubacks>>, Both<Selecting<Grants>, Both<Deletions, Matching>>>>> as Fated>⟧.judges };
 
-    ghost weighs = { λ s. ⟦<Both<Deliveries, Both<Selecting<Counts<Subacks>>, Both<Selecting<Counts<Unsubacks>>, Both<Selecting<Grants>, Deletions>>>> as Fated>⟧.weighs s.watchers };
+    ghost weighs = { λ s. ⟦<Both<Deliveries, Both<Selecting<Counts<Subacks>>, Both<Selecting<Counts<Unsubacks>>, Both<Selecting<Grants>, Both<Deletions, Matching>>>>> as Fated>⟧.weighs s.watchers };
 
-    ghost bound = { ⟦<Both<Deliveries, Both<Selecting<Counts<Subacks>>, Both<Selecting<Counts<Unsubacks>>, Both<Selecting<Grants>, Deletions>>>> as Fated>⟧.bound };
+    ghost bound = { ⟦<Both<Deliveries, Both<Selecting<Counts<Subacks>>, Both<Selecting<Counts<Unsubacks>>, Both<Selecting<Grants>, Both<Deletions, Matching>>>>> as Fated>⟧.bound };
 
     // A call of its own: few packets concern it.
     #[inline(always)]
@@ -114,29 +129,45 @@ impl Fated for Subs {
     }
 }
 
-// Whether bytes are received that may be a request that nobody can read. A bare packet can be read.
+// Whether a CONNACK is sent.
+fn sends_connack(note: &Note) -> bool
+    ensures { result ≡ is_some (sent_connack note.now) }
+{
+    match note.sent_connack() {
+        Some(_) => true,
+        None => false,
+    }
+}
+
+// Whether bytes are received that may be a request that nobody can read, or a CONNACK is sent.
+fn tells_more(note: &Note) -> bool
+    ensures { result ≡ (receives_unclear note.now || is_some (sent_connack note.now)) }
+{
+    note.receives_unclear() || sends_connack(note)
+}
+
+// The same of any event. A bare packet is neither.
 #[inline(always)]
-#[tactic(auto, unfolding(mq_rules::specs::Notes::note_of_bare))]
-fn is_unclear(event: NoteRef<'_>) -> bool
-    ensures { result ≡ receives_unclear (note_in event.entry) }
+fn is_telling(event: NoteRef<'_>) -> bool
+    ensures { result ≡ (receives_unclear (note_in event.entry) || is_some (sent_connack (note_in event.entry))) }
 {
     match event {
-        NoteRef::Kept(note) => note.receives_unclear(),
+        NoteRef::Kept(note) => tells_more(note),
         NoteRef::Bare(_) => false,
     }
 }
 
 // Whether an event may concern the watchers, given whether it may concern those that look at no
-// such bytes, and whether those that do are to judge.
+// such event, and whether those that do are to judge.
 #[inline(always)]
-fn may_tell(first: bool, deleting: bool, event: NoteRef<'_>) -> bool
-    ensures { result ≡ (first || (deleting && receives_unclear (note_in event.entry))) }
+fn may_tell(first: bool, further: bool, event: NoteRef<'_>) -> bool
+    ensures { result ≡ (first || (further && (receives_unclear (note_in event.entry) || is_some (sent_connack (note_in event.entry))))) }
 {
-    first || (deleting && is_unclear(event))
+    first || (further && is_telling(event))
 }
 
 impl Selective for Subs {
-    ghost concerns = { ⟦<Both<Deliveries, Both<Selecting<Counts<Subacks>>, Both<Selecting<Counts<Unsubacks>>, Both<Selecting<Grants>, Deletions>>>> as Selective>⟧.concerns };
+    ghost concerns = { ⟦<Both<Deliveries, Both<Selecting<Counts<Subacks>>, Both<Selecting<Counts<Unsubacks>>, Both<Selecting<Grants>, Both<Deletions, Matching>>>>> as Selective>⟧.concerns };
 
     fn passes(&self) {
         self.watchers.passes();
@@ -145,7 +176,7 @@ impl Selective for Subs {
     #[inline(always)]
     fn may_concern<E: Taken>(&self, event: &E) -> bool {
         let first = event.may_concern_subscriptions(self.watchers.a.is_bound());
-        may_tell(first, self.watchers.b.b.b.b.is_bound(), event.as_ref())
+        may_tell(first, self.watchers.b.b.b.b.a.is_bound(), event.as_ref())
     }
 }
 
@@ -154,11 +185,11 @@ impl Asks for Subs {
         Deliveries,
         Both<
             Selecting<Counts<Subacks>>,
-            Both<Selecting<Counts<Unsubacks>>, Both<Selecting<Grants>, Deletions>>,
+            Both<Selecting<Counts<Unsubacks>>, Both<Selecting<Grants>, Both<Deletions, Matching>>>,
         >,
     > as Asks>::Places;
 
-    ghost counts = { ⟦<Both<Deliveries, Both<Selecting<Counts<Subacks>>, Both<Selecting<Counts<Unsubacks>>, Both<Selecting<Grants>, Deletions>>>> as Asks>⟧.counts };
+    ghost counts = { ⟦<Both<Deliveries, Both<Selecting<Counts<Subacks>>, Both<Selecting<Counts<Unsubacks>>, Both<Selecting<Grants>, Both<Deletions, Matching>>>>> as Asks>⟧.counts };
 
     ghost counted = { of_subscriptions };
 
@@ -169,7 +200,10 @@ impl Asks for Subs {
             Deliveries,
             Both<
                 Selecting<Counts<Subacks>>,
-                Both<Selecting<Counts<Unsubacks>>, Both<Selecting<Grants>, Deletions>>,
+                Both<
+                    Selecting<Counts<Unsubacks>>,
+                    Both<Selecting<Grants>, Both<Deletions, Matching>>,
+                >,
             >,
         >>::tests(rule)
     }
@@ -179,7 +213,10 @@ impl Asks for Subs {
             Deliveries,
             Both<
                 Selecting<Counts<Subacks>>,
-                Both<Selecting<Counts<Unsubacks>>, Both<Selecting<Grants>, Deletions>>,
+                Both<
+                    Selecting<Counts<Unsubacks>>,
+                    Both<Selecting<Grants>, Both<Deletions, Matching>>,
+                >,
             >,
         >>::no_places()
     }
@@ -201,7 +238,10 @@ impl Asks for Subs {
             Deliveries,
             Both<
                 Selecting<Counts<Subacks>>,
-                Both<Selecting<Counts<Unsubacks>>, Both<Selecting<Grants>, Deletions>>,
+                Both<
+                    Selecting<Counts<Unsubacks>>,
+                    Both<Selecting<Grants>, Both<Deletions, Matching>>,
+                >,
             >,
         >>::places_of(places, rule)
     }

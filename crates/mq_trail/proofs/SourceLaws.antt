@@ -18,7 +18,7 @@ use Rattle.mq_rules.specs.declared.fault.Fault.{Fault}
 use Rattle.mq_rules.specs.declared.faults.FaultKey.{FaultKey}
 use Rattle.mq_rules.specs.declared.note.Seen.{Seen}
 use Rattle.mq_rules.specs.declared.rule.Rule.{Rule}
-use Rattle.mq_rules.specs.declared.rule.Rule.TheVariants.{W01, W02, W03, W04, W05, W06, W07, W08, W09, W10, W11, W12, W13, W14, W15, W16, W17, W18, W19, W20, W21, C01, C02, C03, C04, C05, C06, C07, C08, C09, C10, C11, C12, C13, C14, C15, C16, C17, C18, C19, C20, C21, C22, C23, F01, F02, F03, F04, F05, F06, V03, V04, V06, A01, A02, A03, E1R, E2R, E3R, E4R, E5R, E6R, S06, C24, D01, D02, D03, D05, K01, K02}
+use Rattle.mq_rules.specs.declared.rule.Rule.TheVariants.{W01, W02, W03, W04, W05, W06, W07, W08, W09, W10, W11, W12, W13, W14, W15, W16, W17, W18, W19, W20, W21, C01, C02, C03, C04, C05, C06, C07, C08, C09, C10, C11, C12, C13, C14, C15, C16, C17, C18, C19, C20, C21, C22, C23, B08, F01, F02, F03, F04, F05, F06, V03, V04, V06, A01, A02, A03, E1R, E2R, E3R, E4R, E5R, E6R, S06, C24, D01, D02, D03, D05, K01, K02}
 use Rattle.mq_rules.specs.FaultKeys.{FaultMap, fault_at, key_cmp}
 use Rattle.mq_rules.specs.Rules.{binds, found_line, line_of, lines, same_rule}
 use Rattle.mq_rules.specs.Moments.{Moment, position, newest, moment}
@@ -69,6 +69,7 @@ itself role releases further C05 bound on found silent resumed = refl
 itself role releases further C09 bound on found silent resumed = refl
 itself role releases further C18 bound on found silent resumed = refl
 itself role releases further C19 bound on found silent resumed = refl
+itself role releases further B08 bound on found silent resumed = refl
 itself role releases further V03 bound on found silent resumed = refl
 itself role releases further V04 bound on found silent resumed = refl
 itself role releases further V06 bound on found silent resumed = refl

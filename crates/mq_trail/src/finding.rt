@@ -89,39 +89,38 @@ fn is_on_connection(role: Role, rule: Rule) -> bool
     }
 }
 
-// Whether it is found by the past of a session.
+// Whether it is found by the past of a session. Each family has an arm of its own.
 fn is_in_session(rule: Rule) -> bool
     ensures { result ≡ is_found rule }
 {
-    matches!(
-        rule,
-        Rule::S01
-            | Rule::S02
-            | Rule::S03
-            | Rule::S04
-            | Rule::S05
-            | Rule::S07
-            | Rule::E1A
-            | Rule::E1O
-            | Rule::E2A
-            | Rule::E2O
-            | Rule::E3A
-            | Rule::E3O
-            | Rule::E4A
-            | Rule::E5A
-            | Rule::E6A
-            | Rule::E7R
-            | Rule::L1
-            | Rule::L2
-            | Rule::L3
-            | Rule::B01
-            | Rule::B02
-            | Rule::B03
-            | Rule::B04
-            | Rule::B05
-            | Rule::B06
-            | Rule::B07
-    )
+    match rule {
+        Rule::S01 | Rule::S02 | Rule::S03 | Rule::S04 | Rule::S05 | Rule::S07 => true,
+        Rule::E1A
+        | Rule::E1O
+        | Rule::E2A
+        | Rule::E2O
+        | Rule::E3A
+        | Rule::E3O
+        | Rule::E4A
+        | Rule::E5A
+        | Rule::E6A
+        | Rule::E7R
+        | Rule::L1
+        | Rule::L2
+        | Rule::L3 => true,
+        Rule::B01
+        | Rule::B02
+        | Rule::B03
+        | Rule::B04
+        | Rule::B05
+        | Rule::B06
+        | Rule::B07
+        | Rule::B09
+        | Rule::P02
+        | Rule::R01
+        | Rule::R02 => true,
+        _ => false,
+    }
 }
 
 // Whether an answer is missing, or a connection isn't closed, where a REST shows that.

@@ -9,7 +9,7 @@ use Rattle.mq_rules.specs.Burden.{aliases_sent, further_burden, methods_kept}
 use Rattle.mq_rules.specs.Connections.{latest_fate}
 use Rattle.mq_rules.specs.Exchanges.{publish_puback, publish_pubrec, pubrec_pubrel, pubrel_pubcomp, subscribe_suback, unsubscribe_unsuback}
 use Rattle.mq_fates.specs.Holding.{settled, waiting}
-use Rattle.mq_subscriptions.specs.Burden.{asked_filters, deletions_burden, standing_count, unanswered_ids}
+use Rattle.mq_subscriptions.specs.Burden.{asked_filters, deletions_burden, matching_burden, standing_count, unanswered_ids}
 use Rattle.mq_exchanges.specs.Burden.{brought_ids, owing_ids, released_ids}
 use Rattle.mq_inflight.specs.Burden.{delivering_ids, first_ids, open_ids, subscribing_ids, unsubscribing_ids, void_ids}
 
@@ -32,11 +32,12 @@ abbrev pub subscription_burden : Role → Option Fate → List Seen → ℕ
 subscription_burden role taken log =
     standing_count role taken log + asked_filters log + unanswered_ids unsubscribe_unsuback log + aliases_sent log
 
--- What these events give the statements on sessions to keep, where the latest connection is taken to have this fate. Requests are kept only if B06 and B07 are judged.
+-- What these events give the statements on sessions to keep, where the latest connection is taken to have this fate. Requests are kept
+-- only if B06 and B07 are judged, and subscriptions only if B08, B09, P02, R01 and R02 are.
 abbrev pub session_burden : Tested → Option Fate → List Seen → ℕ
 session_burden tested taken log =
     sending_burden tested.role taken log + exchange_burden tested.role taken log + release_burden tested.role taken log + subscription_burden tested.role taken log
-    + deletions_burden tested taken log
+    + deletions_burden tested taken log + matching_burden tested taken log
 
 -- how many Topic Aliases have a topic that was sent on the open connection, while that is undecided
 abbrev pub aliases_undecided : Role → List Seen → ℕ

@@ -7,8 +7,8 @@ pub const B01: &str = "B01 server MQTT-3.3.2-3\n\
     Judged: At a PUBLISH whose topic matches no filter that was subscribed to in the\n\
     session, on a connection that the server accepted. Decided at once, or at the\n\
     CONNACK if that comes later. A server's PUBLISH with DUP 1 isn't judged, nor any\n\
-    in a session that asked for a shared subscription. A filter that was\n\
-    unsubscribed still counts, since messages may be on the way.\n\n\
+    in a session that asked for a shared subscription: B08 is for those. A filter\n\
+    that was unsubscribed still counts, since messages may be on the way.\n\n\
     To see it tested: Let the server send a PUBLISH with DUP 0, in a session that\n\
     hasn't asked for a shared subscription so far. Publish to topics too that the\n\
     client's filters nearly match.\n\n\
@@ -25,8 +25,8 @@ pub const B02: &str = "B02 server MQTT-3.8.4-8\n\
     Judged: At a PUBLISH whose QoS is above what was granted to each filter that\n\
     matches its topic, on a connection that the server accepted. Decided at once, or\n\
     at the CONNACK if that comes later. A server's PUBLISH with DUP 1 isn't judged,\n\
-    nor any in a session that asked for a shared subscription. Before the SUBACK the\n\
-    QoS that was asked for counts.\n\n\
+    nor any in a session that asked for a shared subscription: B09 is for those.\n\
+    Before the SUBACK the QoS that was asked for counts.\n\n\
     To see it tested: Let the server send a PUBLISH of QoS above 0 with DUP 0, in a\n\
     session that hasn't asked for a shared subscription so far. Publish at a QoS\n\
     above what was granted.\n\n\

@@ -1,5 +1,5 @@
-//! The texts of `explain` for the further statements (B05 to B07, F01 to F06, V03, V04, V06, C24, D01
-//! to D03, D05, A01 to A03, K01 and K02), which are judged on request.
+//! The texts of `explain` for the further statements (B05 to B09, P02, R01, R02, F01 to F06, V03,
+//! V04, V06, C24, D01 to D03, D05, A01 to A03, K01 and K02), which are judged on request.
 
 /// The text of `explain B05`.
 pub const B05: &str = "B05 server sec-3.9.3\n\
@@ -61,6 +61,126 @@ pub const B07: &str = "B07 server sec-3.11.3\n\
     In a server: It writes 0x00 for each filter, whether something was deleted or\n\
     not. Write 0x11 where there was no subscription.\n\n\
     See: MQTT 5.0, section 3.11.3.\n";
+
+/// The text of `explain B08`.
+pub const B08: &str = "B08 server MQTT-3.3.2-3\n\
+    A PUBLISH from the server matches a subscription, where some are shared.\n\n\
+    Why: A client gets only what it asked for. The messages for a shared\n\
+    subscription go to any client of its group, and to no other. In a session\n\
+    without one, B01 says the same.\n\n\
+    Judged: At a PUBLISH with DUP 0, after a SUBSCRIBE with a filter that begins\n\
+    with $share/ in the session, if its topic matches no subscription of the\n\
+    session, on a connection that the server accepted. Of a shared one the filter\n\
+    after the ShareName counts, and its own text too. A filter that its SUBACK\n\
+    refused doesn't count. Any other does, also before the SUBACK, and after it was\n\
+    replaced or unsubscribed, since messages may be on the way. Nothing is judged in\n\
+    a session after bytes that may be a SUBSCRIBE or an UNSUBSCRIBE, and break a\n\
+    rule. Decided at once, or at the CONNACK if that comes later. It is a further\n\
+    statement: it is judged with --all.\n\n\
+    To see it tested: Let the server send a PUBLISH with DUP 0, in a session that\n\
+    asked for a shared subscription. Publish to topics too that its filters nearly\n\
+    match, and let a client of another filter have the same ShareName.\n\n\
+    In a server: Groups are found by the ShareName alone, so that those of two\n\
+    filters are taken for one, or a session that ended is still in its group. A\n\
+    group is a ShareName and a filter: keep it under both, and take a session out of\n\
+    it when that ends.\n\n\
+    See: MQTT 5.0, sections 3.3.2.1 and 4.8.2.\n";
+
+/// The text of `explain B09`.
+pub const B09: &str = "B09 server MQTT-3.8.4-8,MQTT-4.8.2-3\n\
+    A PUBLISH isn't at a QoS above what was granted, where some are shared.\n\n\
+    Why: The granted QoS is the most that the client is ready for, and each client\n\
+    of a group may have been granted another one. In a session without a shared\n\
+    subscription, B02 says the same.\n\n\
+    Judged: At a PUBLISH with DUP 0 and a QoS above 0, after a SUBSCRIBE with a\n\
+    filter that begins with $share/ in the session, if its QoS is above what was\n\
+    granted to each subscription that matches its topic, on a connection that the\n\
+    server accepted. Of a shared one the filter after the ShareName counts, and its\n\
+    own text too. Before the SUBACK, and where that has no code for a filter, the\n\
+    QoS that was asked for counts. What was replaced or unsubscribed counts too,\n\
+    since messages may be on the way. If none matches, that is B08. Nothing is\n\
+    judged in a session after bytes that may be a SUBSCRIBE or an UNSUBSCRIBE, and\n\
+    break a rule. Decided at once, or at the CONNACK if that comes later. It is a\n\
+    further statement: it is judged with --all.\n\n\
+    To see it tested: Let the server send a PUBLISH of QoS above 0 with DUP 0, in a\n\
+    session that asked for a shared subscription. Publish at a QoS above what was\n\
+    granted, and let the clients of a group ask for different QoS.\n\n\
+    In a server: The QoS of a delivery is that of the publisher, or that of another\n\
+    client of the group. Choose the client first, and send with the smaller one of\n\
+    the message's QoS and the QoS that the SUBACK granted to this client.\n\n\
+    See: MQTT 5.0, sections 3.8.4 and 4.8.2.\n";
+
+/// The text of `explain P02`.
+pub const P02: &str = "P02 server MQTT-3.3.4-3\n\
+    A PUBLISH has a Subscription Identifier, if each matching subscription has.\n\n\
+    Why: The client asked for the identifier to learn for which subscription a\n\
+    message came. A library that looks for the handler by it finds none.\n\n\
+    Judged: At a PUBLISH with DUP 0 and without a Subscription Identifier, if its\n\
+    topic matches some subscription of the session, and the SUBSCRIBE of each one\n\
+    that it matches has a Subscription Identifier, on a connection that the server\n\
+    accepted by a CONNACK without Subscription Identifier Available 0. Of a shared\n\
+    subscription the filter after the ShareName counts, and its own text too. A\n\
+    filter that its SUBACK refused doesn't count. Any other does, also before the\n\
+    SUBACK, and after it was replaced or unsubscribed, so that what was asked for\n\
+    once without an identifier isn't judged. Nor is it judged which identifier the\n\
+    PUBLISH has, or whether it has all. Nothing is judged in a session after bytes\n\
+    that may be a SUBSCRIBE or an UNSUBSCRIBE, and break a rule. Decided at once, or\n\
+    at the CONNACK if that comes later. It is a further statement: it is judged with\n\
+    --all.\n\n\
+    To see it tested: Subscribe with a Subscription Identifier, and let the server\n\
+    send a PUBLISH with DUP 0 that matches no filter which was asked for without\n\
+    one. Look at retained messages too, and at a session that is resumed.\n\n\
+    In a server: The identifier isn't kept with a session that is stored, or isn't\n\
+    written into retained or queued messages. Keep it with the subscription, and\n\
+    write it wherever a PUBLISH is made.\n\n\
+    See: MQTT 5.0, section 3.3.4.\n";
+
+/// The text of `explain R01`.
+pub const R01: &str = "R01 server MQTT-3.3.1-11,MQTT-3.3.1-12\n\
+    RETAIN is 0 where no matching subscription asks for anything else.\n\n\
+    Why: With Retain Handling 2 a client asks for no retained messages, and with\n\
+    Retain As Published 0 for RETAIN 0 in all others. If RETAIN is 1, it got an old\n\
+    message that it didn't want, or takes a new one for an old one.\n\n\
+    Judged: At a PUBLISH with DUP 0 and RETAIN 1, if its topic matches some\n\
+    subscription of the session, and each one that it matches has Retain Handling 2\n\
+    and Retain As Published 0, on a connection that the server accepted. Of a shared\n\
+    subscription the filter after the ShareName counts, and its own text too. A\n\
+    filter that its SUBACK refused doesn't count. Any other does, also before the\n\
+    SUBACK, and after it was replaced or unsubscribed, so that what was asked for\n\
+    once with other options isn't judged. Nothing is judged in a session after bytes\n\
+    that may be a SUBSCRIBE or an UNSUBSCRIBE, and break a rule. Decided at once, or\n\
+    at the CONNACK if that comes later. It is a further statement: it is judged with\n\
+    --all.\n\n\
+    To see it tested: Subscribe with Retain Handling 2 and Retain As Published 0.\n\
+    Any PUBLISH with DUP 0 that matches no other filter tests this. Publish with\n\
+    RETAIN 1 before the SUBSCRIBE, and after it.\n\n\
+    In a server: RETAIN is forwarded as it came, or retained messages are sent\n\
+    whatever the Retain Handling is. Write RETAIN 0 into what is forwarded unless\n\
+    Retain As Published is 1, and send no retained messages for Retain Handling 2.\n\n\
+    See: MQTT 5.0, sections 3.3.1.3 and 3.8.3.1.\n";
+
+/// The text of `explain R02`.
+pub const R02: &str = "R02 server sec-4.8.2\n\
+    No retained message is sent for a shared subscription.\n\n\
+    Why: A group handles each message once. If retained messages were sent to each\n\
+    client that joins it, they would be handled again for each of them.\n\n\
+    Judged: At a PUBLISH with DUP 0 and RETAIN 1, if its topic matches a shared\n\
+    subscription of the session with Retain Handling 0 or 1, and each subscription\n\
+    that it matches has Retain As Published 0, and is shared or has Retain Handling\n\
+    2, on a connection that the server accepted. Of a shared one the filter after\n\
+    the ShareName counts, and its own text too. A filter that its SUBACK refused\n\
+    doesn't count. Any other does, also before the SUBACK, and after it was replaced\n\
+    or unsubscribed. If each one has Retain Handling 2, that is R01. Nothing is\n\
+    judged in a session after bytes that may be a SUBSCRIBE or an UNSUBSCRIBE, and\n\
+    break a rule. Decided at once, or at the CONNACK if that comes later. It is a\n\
+    further statement: it is judged with --all.\n\n\
+    To see it tested: Publish with RETAIN 1, and then ask for a shared subscription\n\
+    that matches, with Retain Handling 0 and Retain As Published 0. Any PUBLISH with\n\
+    DUP 0 that it matches tests this, if no ordinary filter matches too.\n\n\
+    In a server: Retained messages are looked up for each filter of a SUBSCRIBE.\n\
+    Send none for those that begin with $share/. Or RETAIN is forwarded as it came:\n\
+    write RETAIN 0 unless Retain As Published is 1.\n\n\
+    See: MQTT 5.0, sections 3.3.1.3 and 4.8.2.\n";
 
 /// The text of `explain F01`.
 pub const F01: &str = "F01 client MQTT-3.2.2-14\n\

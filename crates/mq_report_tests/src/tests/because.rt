@@ -86,8 +86,8 @@ fn is_at_fault_by_itself(alloc: Global, rule: Rule) -> bool {
         && is_said(alloc, rule, by_event(7), " (because of event 7)")
 }
 
-// Statements on a packet's bytes, and others that a packet breaks by itself.
-static BY_THEMSELVES: [Rule; 25] = [
+// Statements on a packet's bytes, and others for which nothing earlier is to blame.
+static BY_THEMSELVES: [Rule; 26] = [
     Rule::W01,
     Rule::W02,
     Rule::W03,
@@ -113,6 +113,7 @@ static BY_THEMSELVES: [Rule; 25] = [
     Rule::C09,
     Rule::C18,
     Rule::C19,
+    Rule::B08,
 ];
 
 // Asserts that nothing is said of faults of these.
@@ -179,7 +180,7 @@ fn says_what_the_event_is_on_a_connection(rt: HostRuntime) {
 }
 
 // What is said of event 40, in a session.
-static IN_SESSIONS: [Said; 11] = [
+static IN_SESSIONS: [Said; 15] = [
     (Rule::S01, " (because of event 40: it holds the identifier)"),
     (
         Rule::S02,
@@ -214,6 +215,22 @@ static IN_SESSIONS: [Said; 11] = [
     (
         Rule::B07,
         " (because of event 40: the UNSUBSCRIBE, for a filter that was never subscribed)",
+    ),
+    (
+        Rule::B09,
+        " (because of event 40: the SUBSCRIBE that matches)",
+    ),
+    (
+        Rule::P02,
+        " (because of event 40: the SUBSCRIBE that matches)",
+    ),
+    (
+        Rule::R01,
+        " (because of event 40: the SUBSCRIBE that matches)",
+    ),
+    (
+        Rule::R02,
+        " (because of event 40: the SUBSCRIBE that matches)",
     ),
 ];
 

@@ -15,4 +15,5 @@ returns-clause-agrees c = record {
   received_are = c.new-8.ensures;
   overtaking_is = c.new-9.ensures c.args.tested.role (Some Void);
   subscriptions_are = c.kept_if.ensures.agrees;
+  matching_are = c.matching_if.ensures.agrees;
 }

@@ -5,6 +5,7 @@ use Rattle.mq_rules.specs.Under.{seen, fate_before}
 use Rattle.mq_rules.proofs.Exports.{session-members}
 use Rattle.mq_evidence.specs.Begun.{IsBegun}
 use Rattle.mq_evidence.specs.Subscriptions.{IsSubscriptions}
+use Rattle.mq_evidence.specs.Matching.{IsMatching}
 use Rattle.mq_evidence.specs.Handshakes.{IsHandshake}
 use Rattle.mq_evidence.specs.Senders.{IsSenders}
 use Rattle.mq_evidence.specs.Answering.{IsAnswering, IsWaiting}
@@ -34,4 +35,5 @@ returns-clause-agrees c = λ tested decided past under trail.
       received_are = subst (λ t. IsReceived c.take-8.new.self t) turned (c.in_ok-take-5.ensures m s comes trail.received_are);
       subscriptions_are = subst (λ t. IfSome c.take_if_kept.new.subscriptions (λ x. IsSubscriptions x (e ∷ past) t)) turned
           (c.in_ok-take_if_kept.ensures.agrees e past s comes (λ j there. (session-members tested.role (fate_before tested c.args.fate e past) past j there).0) trail.subscriptions_are);
+      matching_are = subst (λ t. IfSome c.take_matching.new.matching (λ x. IsMatching x t)) turned (c.in_ok-take_matching.ensures.agrees m s comes trail.matching_are);
     }
