@@ -18,6 +18,7 @@ pub mod MarkedLaws
 pub mod PlacesLaws
 pub mod OwingLaws
 pub mod SubscribedLaws
+pub mod DeliveringLaws
 pub mod DeliveryLaws
 pub mod QuietLaws
 pub mod JudgedLaws

@@ -12,6 +12,7 @@ pub mod Finding
 pub mod Owing
 pub mod Subscribed
 pub mod Deliveries
+pub mod Matching
 pub mod Events
 pub mod Waiting
 pub mod Owed

@@ -59,8 +59,9 @@ fn last_topic(alias: u16, before: &[Seen]) -> Option<&str>
     None
 }
 
-// The topic of a PUBLISH that has these events before it.
-fn topic_of<'a>(publish: &'a PublishNote, before: &'a [Seen]) -> Option<&'a str>
+/// The topic of a PUBLISH that has these events before it: its Topic Name, or if that is empty the
+/// one that was last set for its Topic Alias on the connection.
+pub fn topic_of<'a>(publish: &'a PublishNote, before: &'a [Seen]) -> Option<&'a str>
     ensures { option_map (λ topic. topic.now) result ≡ topic_after (reverse before.now) publish.now }
 {
     if !publish.topic.is_empty() {
@@ -116,9 +117,9 @@ fn asks_for_shared_at(fate: Option<Fate>, note: &Note) -> bool
     is_accepted(fate) && asks_for_shared(note)
 }
 
-// Whether a shared subscription was asked for in the current session after these events, if the
-// latest connection is accepted with this fate.
-fn is_sharing(role: Role, fate: Fate, before: &[Seen]) -> bool
+/// Whether a shared subscription was asked for in the current session after these events, if the
+/// latest connection is accepted with this fate.
+pub fn is_sharing(role: Role, fate: Fate, before: &[Seen]) -> bool
     ensures { result ≡ some asks_to_share (session role (Some fate) (reverse before.now)) }
 {
     let mut earlier = before;

@@ -9,6 +9,7 @@ ghost use Rattle.mq_plain.specs.Chosen.{is_plain_connection, is_plain_further, i
 mod answering;
 mod authentication;
 mod deletions;
+mod delivering;
 mod duties;
 mod errors;
 mod evaluator;
@@ -16,6 +17,7 @@ mod excess;
 mod grants;
 mod judging;
 mod limits;
+mod matching;
 mod moments;
 mod packets;
 mod showing;
@@ -26,6 +28,7 @@ use crate::evaluator::{OnSessions, Then};
 use crate::pass::judge_each;
 use authentication::{AskedAuthentication, SameMethod, WaitsForConnack};
 use deletions::{FoundedDeletions, KnownSubscriptions};
+use delivering::{ClearedRetain, GivenIdentifiers, SharedQos, SharedTopics, UnretainedShares};
 use duties::{AnsweredConnect, ClosedMalformed, ClosedReconnect};
 use errors::ClosedMistaken;
 use evaluator::{Also, OnLater, OnPasts, judge_events};
@@ -77,15 +80,28 @@ type Authentication<Others> = Also<
 type Silences = Also<OnPasts<HeardInTime>, OnPasts<ClosedInTime>>;
 
 // B05 to B07.
-type Subscriptions = Then<
+type Subscriptions<Others> = Then<
     OnSessions<AskedQos>,
-    Then<OnSessions<KnownSubscriptions>, OnSessions<FoundedDeletions>>,
+    Then<OnSessions<KnownSubscriptions>, Then<OnSessions<FoundedDeletions>, Others>>,
+>;
+
+// B08, B09, P02, R01 and R02.
+type Deliveries = Then<
+    OnSessions<SharedTopics>,
+    Then<
+        OnSessions<SharedQos>,
+        Then<
+            OnSessions<GivenIdentifiers>,
+            Then<OnSessions<ClearedRetain>, OnSessions<UnretainedShares>>,
+        >,
+    >,
 >;
 
 /// Judges each event of a list, the oldest first, by the further statements: on one packet and on
 /// what came before it (F01 to F06, V03, V04, V06, A01 to A03), on what a server owes for what it
-/// received (C24, D01 to D03, D05), on the Keep Alive (K01, K02), and on subscriptions (B05 to B07).
-/// A pair that already has a fault keeps it. Those that aren't asked for don't bind the tested end.
+/// received (C24, D01 to D03, D05), on the Keep Alive (K01, K02), and on subscriptions (B05 to B09,
+/// P02, R01, R02). A pair that already has a fault keeps it. Those that aren't asked for don't bind
+/// the tested end.
 ///
 /// # Errors
 ///
@@ -134,5 +150,5 @@ fn judge_subscriptions(
     ensures ok { IsPlaced (reverse seen.now) → OnOk result (Grows is_plain_subscription tested (reverse seen.now) faults.old faults.new) }
     ensures memory { IsPlaced (reverse seen.now) → OnErr result (GrowsWithin is_plain_subscription tested (reverse seen.now) faults.old faults.new) }
 {
-    judge_each::<Subscriptions>(alloc, tested, seen, faults)
+    judge_each::<Subscriptions<Deliveries>>(alloc, tested, seen, faults)
 }

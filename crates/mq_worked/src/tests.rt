@@ -3,6 +3,7 @@
 
 mod further;
 mod hostile;
+mod matching;
 mod memory;
 mod plain;
 mod statements;

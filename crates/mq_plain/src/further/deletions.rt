@@ -32,10 +32,10 @@ struct Answered<'a> {
     codes: &'a [u8],
 }
 
-// Whether each SUBSCRIBE and UNSUBSCRIBE since the current session began could be read, if the
-// latest connection is accepted with this fate. Void connections count too: what a server did with
-// their bytes nobody can tell.
-fn is_clear(role: Role, fate: Fate, before: &[Seen]) -> bool
+/// Whether each SUBSCRIBE and UNSUBSCRIBE since the current session began could be read, if the
+/// latest connection is accepted with this fate. Void connections count too: what a server did with
+/// their bytes nobody can tell.
+pub fn is_clear(role: Role, fate: Fate, before: &[Seen]) -> bool
     ensures { (e : TheSeen) → result ≡ is_clear_before role fate (newest e (reverse before.now)) }
 {
     let mut earlier = before;

@@ -216,9 +216,9 @@ static KEPT: [&str; 26] = [
     "server OPEN <101200044D5154540502003C041500016D000163 >F00618041500016D <F00618041500016D >20070000041500016D REST",
 ];
 
-// Whether the judge and the plain evaluators find the same faults in the log of these words, and
-// this one among them.
-fn is_found_broken(
+/// Whether the judge and the plain evaluators find the same faults in the log of these words, and
+/// this one among them.
+pub fn is_found_broken(
     alloc: Global,
     rule: Rule,
     position: u32,
@@ -240,9 +240,9 @@ fn has_no_further(faults: &Faults) -> bool {
     faults.iter().all(|(key, _)| !key.rule.is_further())
 }
 
-// Whether the judge and the plain evaluators find the same faults in the log of these words, and
-// none of a further statement.
-fn is_found_kept(alloc: Global, words: &'static str) -> Result<bool, Fail> {
+/// Whether the judge and the plain evaluators find the same faults in the log of these words, and
+/// none of a further statement.
+pub fn is_found_kept(alloc: Global, words: &'static str) -> Result<bool, Fail> {
     let log = log_of(alloc, &[], words)?;
     let Some(faults) = plain_further_faults_in(alloc, &log, Further::ON_REQUEST)? else {
         return Ok(false);
