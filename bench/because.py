@@ -22,6 +22,7 @@ from pathlib import Path
 
 sys.dont_write_bytecode = True  # the repository stays as it is
 import on_request
+from further_grants import is_about
 from further_manners import waits_for_auth
 from further_table import ALL, ALWAYS, JUDGED, TIMES
 from further_times import late_by_client, late_by_server, last_of_client, silence
@@ -471,6 +472,22 @@ def denies_a_subscription(log: Log, k: int) -> Evidence:
 def deletes_what_never_was(log: Log, k: int) -> Evidence:
     """The UNSUBSCRIBE that is answered."""
     return Evidence("the UNSUBSCRIBE, for a filter that was never subscribed", first_unanswered(log, "E6", k, log.sent_packet(k).identifier))
+
+
+# No filter is to blame for what none matches.
+by_itself("", "B08")
+
+
+@says("B09", "P02", "R01", "R02")
+def is_matched_in_vain(log: Log, k: int) -> Evidence:
+    """The last SUBSCRIBE with a filter that matches, refused or not."""
+    topic = topic_of(log, k)
+
+    def asks(j: int) -> bool:
+        p = log.received_packet(j, SUBSCRIBE)
+        return p is not None and any(is_about(filter, topic) for filter, _ in p.filters)
+
+    return Evidence("the SUBSCRIBE that matches", latest(log.before_in(k), asks))
 
 
 # -- F, V, C24, D and A, of further statements: the CONNACK or the CONNECT of the connection, or a REST; of a value in one packet nothing earlier

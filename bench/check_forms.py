@@ -138,10 +138,23 @@ def asking() -> bytes:
     return check_rows.log_of("server " + " ".join(words), names)
 
 
+def delivering() -> bytes:
+    """A server that breaks what further statements say of deliveries, several at one event, on connection after connection: by filters
+    with and without a Subscription Identifier and Retain Handling 2, shared or not, of which each is granted QoS 0."""
+    names, words = further_worked.packets(), []
+    shared = "82120001020B07000A2473686172652F672F6102"
+    for request in ("SUBSCRIBE-7:1", "SUBSCRIBE-RETAINED-2:1", "82090001020B0700016122", "SHARE:1", "SHARE-RETAINED-2:1", shared):
+        words += ["OPEN", "<CONNECT-NAMED", ">CONNACK", f"<{request}", ">PUBLISH0", ">SUBACK-0:1", ">PUBLISH0-RETAINED"]
+        words += [">PUBLISH1-RETAINED:1", ">PUBLISH0-7", ">PUBLISH0-B", ">PUBLISH0-SHARE", "<SUBSCRIBE-ALL:2", ">SUBACK:2", ">PUBLISH0-B"]
+        words += [">PUBLISH0-RETAINED", "CLOSE"]
+    return check_rows.log_of("server " + " ".join(words), names)
+
+
 def logs(paths: list[str]) -> list[tuple[str, bytes]]:
     found = [(row.name, row.log) for row in check_rows.rows()]
     found.append(("a server that further statements are about", asking()))
     found.append(("a client that further statements are about", wishing()))
+    found.append(("a server of whose deliveries further statements are", delivering()))
     found.append(("3,000 faults", many_faults(3000)))
     found.append(("long packets that break a rule", long_broken()))
     found.append(("texts that break a rule", wrong_texts()))

@@ -3,6 +3,9 @@ what comes by its subscriptions (B08 to B11, P, R). They are judged where the se
 
 After bytes in a session that may have been a SUBSCRIBE or an UNSUBSCRIBE nobody can tell from the log what is subscribed: those that
 break a rule may have been taken in all the same, or in part. From there on nothing is said of the session but by B05.
+
+For B08, B09, P02, R01 and R02 each subscription of a session counts to its end, unless a SUBACK refused it: what was chosen while it
+stood may come at any time later. B10, B11 and P01 look at when one ends (`is_live`).
 """
 from collections.abc import Callable
 from dataclasses import dataclass
@@ -15,7 +18,9 @@ from sessions import NEW, Log
 from statements import closer, first_unanswered, matches, publish_id, sent, topic_of
 
 ANSWERS = {SUBSCRIBE: SUBACK, UNSUBSCRIBE: UNSUBACK}
-RETAIN_AS_PUBLISHED = 0x08
+EXCHANGE = {SUBSCRIBE: "E5", UNSUBSCRIBE: "E6"}
+RETAIN_AS_PUBLISHED, NEVER_AT_FIRST = 0x08, 2  # a bit of the Subscription Options, and a Retain Handling
+AS_PUBLISHED, AT_FIRST, IN_VAIN = "as published", "at first", "in vain"
 
 
 @dataclass(frozen=True)
@@ -28,7 +33,7 @@ class Request:
     filter: bytes
     options: int
     identifier: int | None  # the Subscription Identifier
-    answered: int | None  # the position of the first answer under the Packet Identifier, after it on its connection
+    answered: int | None  # the position of its answer: the first one, if no earlier request under its Packet Identifier waits then
     code: int | None  # what that says of the filter
 
     def is_refused(self, k: int) -> bool:
@@ -62,7 +67,8 @@ def requests_at(log: Log, k: int) -> list[Request]:
     if p is None:
         return []
     later = [m for m in log.connection_positions[log.places[k]] if m > k]
-    answered = next((m for m in later if log.sends(m, ANSWERS[p.type], p.identifier)), None)
+    first = next((m for m in later if log.sends(m, ANSWERS[p.type], p.identifier)), None)
+    answered = first if first is not None and first_unanswered(log, EXCHANGE[p.type], first, p.identifier) == k else None
     said = log.sent_packet(answered).codes if answered is not None else []
     codes = [*said, *[None] * len(p.filters)]
     identifier = p.get(SUBSCRIPTION_IDENTIFIER)
@@ -141,7 +147,7 @@ def is_about(filter: bytes, topic: bytes) -> bool:
 
 
 def matching(log: Log, k: int) -> list[Request]:
-    """The subscriptions before a delivery that aren't refused there and match it."""
+    """The subscriptions of the session, asked for before a delivery, that aren't refused by then and match its topic."""
     topic = topic_of(log, k)
     return [one for one in requests_before(log, k, SUBSCRIBE) if not one.is_refused(k) and is_about(one.filter, topic)]
 
@@ -229,9 +235,9 @@ def names_a_foreign_one(log: Log, k: int) -> bool:
 @applies("P02")
 @of_deliveries
 def has_identifiers_to_name(log: Log, k: int, p: Packet) -> bool:
-    """A delivery that live subscriptions match, each of which has an identifier, and the server didn't say that it takes none."""
-    alive = live(log, k)
-    return bool(alive) and all(one.identifier is not None for one in alive) and not is_announced_0(log, k, IDENTIFIERS)
+    """A delivery that something matches, all of it with an identifier, and the server didn't say that it takes none."""
+    found = matching(log, k)
+    return bool(found) and all(one.identifier is not None for one in found) and not is_announced_0(log, k, IDENTIFIERS)
 
 
 @fails("P02", sent([PUBLISH]))
@@ -239,16 +245,18 @@ def names_none(log: Log, k: int) -> bool:
     return has_identifiers_to_name(log, k) and identifiers(log.sent_packet(k)) == []
 
 
-def forwards_retained(one: Request) -> bool:
-    return bool(one.options & RETAIN_AS_PUBLISHED)
+def reasons_to_retain(found: list[Request]) -> set[str]:
+    """Why RETAIN may be 1 by these subscriptions: one keeps it as it was published; one asks for the messages that are retained; or one
+    would, were it not shared."""
+    why = {AS_PUBLISHED for one in found if one.options & RETAIN_AS_PUBLISHED}
+    return why | {IN_VAIN if is_shared(one.filter) else AT_FIRST for one in found if one.handling() != NEVER_AT_FIRST}
 
 
 @applies("R01")
 @of_deliveries
 def can_have_no_retain(log: Log, k: int, p: Packet) -> bool:
-    """A delivery that live subscriptions match, all of them with Retain As Published 0 and Retain Handling 2."""
-    alive = live(log, k)
-    return bool(alive) and all(not forwards_retained(one) and one.handling() == 2 for one in alive)
+    """A delivery that something matches, all of it with Retain As Published 0 and Retain Handling 2."""
+    return bool(matching(log, k)) and reasons_to_retain(matching(log, k)) == set()
 
 
 @fails("R01", sent([PUBLISH]))
@@ -259,12 +267,8 @@ def retains_unasked(log: Log, k: int) -> bool:
 @applies("R02")
 @of_deliveries
 def gives_to_a_share(log: Log, k: int, p: Packet) -> bool:
-    """One that live subscriptions match, all of them with Retain As Published 0 and shared or with Retain Handling 2, and one of them
-    is shared and has another handling."""
-    alive = live(log, k)
-    if any(forwards_retained(one) or not (is_shared(one.filter) or one.handling() == 2) for one in alive):
-        return False
-    return any(is_shared(one.filter) and one.handling() != 2 for one in alive)
+    """A delivery to which nothing but a shared subscription could give RETAIN 1, by asking for retained messages, which none gets."""
+    return reasons_to_retain(matching(log, k)) == {IN_VAIN}
 
 
 @fails("R02", sent([PUBLISH]))
@@ -299,14 +303,9 @@ def unsubscribed(log: Log, k: int) -> list[tuple[Request, int]]:
 
 
 def said_before(log: Log, k: int, j: int, filter: bytes) -> list[int | None]:
-    """What the SUBACK that answers the SUBSCRIBE at j, for which that is the first unanswered one, says of each place of a filter, if it
-    was sent before k."""
-    p = log.received_packet(j, SUBSCRIBE)
-    between = [m for m in log.connection_positions[log.places[j]] if j < m < k]
-    at = next((m for m in between if log.sends(m, SUBACK, p.identifier)), None)
-    is_answered = at is not None and first_unanswered(log, "E5", at, p.identifier) == j
-    codes = [*(log.sent_packet(at).codes if is_answered else []), *[None] * len(p.filters)]
-    return [codes[n] for n, (asked, _) in enumerate(p.filters) if asked == filter]
+    """What the SUBACK of the SUBSCRIBE at j says of each place of a filter, if it was sent before k."""
+    asked = [one for one in requests_at(log, j) if one.filter == filter]
+    return [one.code if one.answered is not None and one.answered < k else None for one in asked]
 
 
 def stands(log: Log, k: int, one: Request) -> bool:

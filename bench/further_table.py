@@ -1,5 +1,5 @@
 """The thirty further statements, in the order of reports: code, citations, and what each says; where its words are kept; and which of
-them the program judges, on request: most if it is asked by `--all`, and those on times too if it is asked by `--times`.
+them the program judges, on request: all but B10, B11 and P01 if it is asked by `--all`, and those on times too if by `--times`.
 
 They are a part of the second opinion that further.py gives, and no part of the program. Each was written from the words of
 docs/DECISIONS.md and of the standard, before the program judged any. Like those of statements.py they look at the whole log for
@@ -19,10 +19,14 @@ SHAPES = """
 B05 - sec-3.9.3 A SUBACK grants no more than was asked for
 B06 - MQTT-3.10.4-1 No UNSUBACK says of a subscription that it doesn't exist
 B07 - sec-3.11.3 No UNSUBACK says that a filter was deleted which was never subscribed
-B08 - MQTT-3.3.2-3 A PUBLISH matches a subscription, where some are shared too
-B09 - MQTT-3.8.4-8,MQTT-4.8.2-3 Its QoS isn't above what was granted, where some are shared too
+B08 - MQTT-3.3.2-3 A PUBLISH from the server matches a subscription, where some are shared
+B09 - MQTT-3.8.4-8,MQTT-4.8.2-3 A PUBLISH isn't at a QoS above what was granted, where some are shared
+P02 - MQTT-3.3.4-3 A PUBLISH has a Subscription Identifier, if each matching subscription has
+R01 - MQTT-3.3.1-11,MQTT-3.3.1-12 RETAIN is 0 where no matching subscription asks for anything else
+R02 - sec-4.8.2 No retained message is sent for a shared subscription
 B10 - MQTT-3.10.4-2 Nothing comes for a filter that was unsubscribed before a REST
 B11 - MQTT-3.8.4-3 The QoS of a subscription that was replaced holds no longer
+P01 - sec-3.3.4 A Subscription Identifier is that of a matching subscription
 F01 MQTT-3.2.2-14 - A new PUBLISH has RETAIN 0 where Retain Available is 0
 F02 sec-3.2.2.3.11 - No filter has a wildcard where the server takes none
 F03 sec-3.2.2.3.12 - No SUBSCRIBE has a Subscription Identifier where the server takes none
@@ -37,10 +41,6 @@ D01 - MQTT-4.13.1-1 After a Malformed Packet the server closes the connection
 D02 - MQTT-3.1.0-2 After a second CONNECT the server closes the connection
 D03 - MQTT-4.13.1-1 After a Protocol Error the server closes the connection
 D05 - sec-3.3.4 After more QoS 2 PUBLISHes than its Receive Maximum the server closes
-P01 - sec-3.3.4 A Subscription Identifier is that of a matching subscription
-P02 - MQTT-3.3.4-3 A PUBLISH has an identifier if each matching subscription has one
-R01 - MQTT-3.3.1-11,MQTT-3.3.1-12 RETAIN is 0 where no matching subscription can make it 1
-R02 - sec-4.8.2 No retained message is sent for a shared subscription
 A01 MQTT-3.1.2-30 - A client that uses an Authentication Method sends only AUTH and DISCONNECT before a CONNACK was received
 A02 MQTT-4.12.0-7 MQTT-4.12.0-6 Without an Authentication Method in CONNECT there is no enhanced authentication
 A03 MQTT-4.12.0-5,MQTT-4.12.1-1 MQTT-4.12.0-5 AUTH and an accepting CONNACK have the Authentication Method of the CONNECT
@@ -55,7 +55,7 @@ for line in SHAPES.strip().split("\n"):
     SENTENCES[code] = sentence
 TIMED = ("K01", "K02")  # that look at moments
 ALWAYS, ALL, TIMES = "", "--all", "--times"  # how much the program is asked for: by no option, or by one of these
-UNTIMED = ("B05", "B06", "B07", "F01", "F02", "F03", "F04", "F05", "F06", "V03", "V04", "V06", "C24", "D01", "D02", "D03", "D05", "A01", "A02", "A03")
+UNTIMED = tuple("B05 B06 B07 B08 B09 P02 R01 R02 F01 F02 F03 F04 F05 F06 V03 V04 V06 C24 D01 D02 D03 D05 A01 A02 A03".split())
 # Those that the program judges too, by the option that asks for them; and all of them.
 ASKED: dict[str, tuple[str, ...]] = {ALWAYS: (), ALL: UNTIMED, TIMES: (*UNTIMED, *TIMED)}
 JUDGED = ASKED[TIMES]

@@ -27,8 +27,6 @@ WHICH = ("broken", "kept", "near")
 BEGINNINGS = 4  # of each log that isn't worked, with which it is compared
 SHORT = 5_000  # bytes of a worked log of the 74 statements on which the laws are checked
 LONGEST = 150  # events of a log that is made on which they are
-# What honest_logs.py doesn't heed: its servers give any message a Subscription Identifier.
-NOT_HEEDED = {"server": {"P01"}, "client": set()}
 # The beginnings of the names of packets that only one end sends.
 OF_CLIENTS = ("CONNECT", "RECONNECT", "BAD-CONNECT", "SUBSCRIBE", "SHARE", "UNSUBSCRIBE", "PINGREQ")
 OF_SERVERS = ("CONNACK", "RESUMED", "BAD-CONNACK", "SUBACK", "UNSUBACK", "PINGRESP")
@@ -215,10 +213,7 @@ def made(count: int) -> Iterator[tuple[str, bytes]]:
 
 def wrong_honest(name: str, log: Log) -> Iterator[str]:
     """Honest sessions have no faults."""
-    excepted = NOT_HEEDED[log.role] if name.startswith("bench/honest_logs.py") else set()
-    for k, code, at in faults(log, times=True):
-        if code not in excepted:
-            yield f"{name}: {code} fails at {k}, decided at {at}"
+    yield from (f"{name}: {code} fails at {k}, decided at {at}" for k, code, at in faults(log, times=True))
 
 
 def self_test(count: int) -> int:

@@ -329,7 +329,7 @@ FLAWS = {
     "a decided position in JSON": (r's/"decided":\([0-9]*\),/"decided":1\1,/', 40),
     "DUP as it is shown": ("s/dup 1/dup 0/", 40),
     "a place too many": (r"s/^\(tested .* places\) 1$/\1 2/", 40),
-    "an event that a fault conflicts with": (r"s/^\(because .* event\) \([0-9]\)/\1 1\2/", 60),
+    "an event that a fault conflicts with": (r"s/^\(because .* event\) \([0-9]\)/\1 1\2/", 70),
     "an offset of a packet": ("s/^BAD W13 offset 2/BAD W13 offset 3/", 12),
     "a moment as it is shown": (r"s/ moment \([0-9]*\) / moment 1\1 /", 40),
     "a refusal's byte": (r"s/^refused 5 Kind at \(.*\)/refused 5 Kind at 1\1/", 40),

@@ -5,32 +5,30 @@ same bytes.
 A log has one to six connections of a client or of a server. They are accepted, with a new session or the one before, or refused,
 or closed without a CONNACK, which may have begun a session all the same. There are messages of all QoS in both directions, PUBLISHes
 and PUBRELs that are sent again, at once or one after the other, PUBLISHes that a connection's end cuts off, or that a bound of the
-peer forbids, subscriptions, Topic Aliases, what the peer announces, Reason Codes that the end may send,
-Wills, which a server doesn't take if it can't, enhanced authentication, if the CONNECT names a method, packets before the CONNACK, also where that then says of the session what the client
-didn't expect, RELEASEs and RESTs; and packets are split over records anywhere. A third of the logs are of version 2, at whose moments
-no client is silent for longer than it may be, or the server closes. A judge must pass each log, by all statements: `bench/fuzz.py`
-looks at that, and at what it says of these logs when changed.
+peer forbids, subscriptions, also shared ones, with all Subscription Options and with Subscription Identifiers, messages for one that
+has ended, Topic Aliases, what the peer announces, Reason Codes that the end may send, Wills, which a server doesn't take if it can't,
+enhanced authentication, if the CONNECT names a method, packets before the CONNACK, also where that then says of the session what the
+client didn't expect, RELEASEs and RESTs; and packets are split over records anywhere. A third of the logs are of version 2, at whose
+moments no client is silent for longer than it may be, or the server closes. A judge must pass each log, by all statements:
+`bench/fuzz.py` looks at that, and at what it says of these logs when changed.
 
 usage: bench/honest_logs.py SEED NUMBER > FILE
 """
 import random
 import sys
-from collections import Counter
 from dataclasses import dataclass, field, replace
 from itertools import accumulate
 
 sys.dont_write_bytecode = True  # the repository stays as it is
 from make_log import CLOSE, OPEN, PINGREQ, PINGRESP, RECV, REST, SENT, record, varint
 from pacing import in_time
-from random_logs import EXPLANATIONS, Type, will_flags, write_one
+from random_logs import EXPLANATIONS, Type, listed, will_flags, write_one
 from session_logs import CLIENT, RELEASE, SERVER, number, packet, text
+from subscribing import FILTERS, Subscribed, Subscription, asked, some_manner
 from versions import OFTEN_SECOND
 
 IDENTIFIERS = range(1, 6)
 TOPICS = ("a", "b", "a/b", "a/b/c", "$x/y")
-# Filters, each with names that it matches.
-FILTERS = {"a": ("a",), "a/#": ("a", "a/b", "a/b/c"), "+": ("a", "b"), "#": ("a", "a/b", "x/y/z"), "a/+": ("a/b", "a/")}
-FILTERS |= {"$x/#": ("$x/y",)}
 LONGEST = 64  # no PUBLISH or SUBSCRIBE with a payload of one byte is larger: the smallest Maximum Packet Size
 PAYLOADS = (0, 1, 1, 1, 1, 1, 1, 300)
 EXPIRY_0, EXPIRY_60 = b"\x11\0\0\0\0", b"\x11\0\0\0\x3c"  # Session Expiry Interval, in seconds
@@ -51,6 +49,7 @@ class Message:
     retain: bool = False
     size: int = 0  # of the first PUBLISH, in bytes
     is_received: bool = False
+    number: int | None = None  # the Subscription Identifier
 
 
 @dataclass
@@ -60,10 +59,7 @@ class State:
     own: list[Message] = field(default_factory=list)  # the tested end's messages, in the order in which it sent them
     of_peer: list[Message] = field(default_factory=list)
     to_complete: dict[int, bool] = field(default_factory=dict)  # received messages of QoS 2, and whether they were released
-    filters: dict[str, int] = field(default_factory=dict)  # that the client subscribed to, each with the QoS
-    # How many SUBSCRIBEs with a filter weren't refused; and the last one, with what it asks for, if no UNSUBSCRIBE came later.
-    heard: Counter[str] = field(default_factory=Counter)
-    wanted: dict[str, list[tuple[str, int]]] = field(default_factory=dict)
+    subscribed: Subscribed = field(default_factory=Subscribed)
     # Identifiers that were released before the session began: L2 would take the next release of each for the second one.
     released_before: set[int] = field(default_factory=set)
     # Those of discarded messages of the tested end: S05 would take the next message under each for the one before, were it no event.
@@ -71,8 +67,7 @@ class State:
 
     def copy(self) -> "State":
         messages = [replace(one) for one in self.own], [replace(one) for one in self.of_peer]
-        filters = dict(self.filters), Counter(self.heard), dict(self.wanted)
-        return State(*messages, dict(self.to_complete), *filters, set(self.released_before), set(self.discarded))
+        return State(*messages, dict(self.to_complete), self.subscribed.copy(), set(self.released_before), set(self.discarded))
 
     def to_release(self) -> list[int]:
         return [one for one, is_released in self.to_complete.items() if not is_released]
@@ -113,6 +108,7 @@ class Line:
     is_accepted: bool = True
     may_explain: bool = True  # in Reason Strings and User Properties
     takes: int = 2  # the Maximum QoS that a tested server announced
+    takes_numbers: bool = True  # it has Subscription Identifiers
     will: tuple[int, bool] | None = None  # the QoS and Will Retain of the client's Will, if it has one
     method: bytes = b""  # the property of the CONNECT that names one
     used: int = 0  # of the send quota
@@ -121,7 +117,7 @@ class Line:
     owed: list[Answer] = field(default_factory=list)  # by the tested end
     to_come: list[Answer] = field(default_factory=list)  # from the peer
     asked: set[int] = field(default_factory=set)  # SUBSCRIBEs and UNSUBSCRIBEs without an answer
-    requests: dict[int, list[tuple[str, int]]] = field(default_factory=dict)  # the filters in each of them
+    requests: dict[int, list[Subscription]] = field(default_factory=dict)  # the filters in each of them
     unwanted: dict[int, set[str]] = field(default_factory=dict)  # those of an UNSUBSCRIBE that no SUBSCRIBE since the last one has
     topics: dict[int, str] = field(default_factory=dict)  # of the tested end's Topic Aliases
     unanswered: set[int] = field(default_factory=set)  # PUBLISHes and PUBRELs that the tested end sent
@@ -142,6 +138,8 @@ class Honest:
         self.is_patient = self.chance(0.4)  # sends again one after the other
         self.is_fickle = self.chance(0.3)  # a client that subscribes and unsubscribes often
         self.bounds = self.draw.choice(((), (), (), ("size",), ("qos",), ("retain",)))  # that the peer announces often
+        self.manner = some_manner(draw)  # of a client that subscribes
+        self.lacks_numbers = draw.choice((0, 0, 0.3, 1))  # how often a tested server has no Subscription Identifiers
         self.is_kept = False  # there is a session that may be resumed
         self.is_alive = False  # as far as the log tells
         self.has_accepted = False  # a connection was accepted
@@ -185,7 +183,7 @@ class Honest:
         self.left = []
         if not (resumes or is_surprised):
             self.left, self.state = self.state.to_release(), State()
-        self.line = Line(is_accepted=fate == "accepted", again=list(self.state.own))
+        self.line = Line(is_accepted=fate == "accepted", again=list(self.state.own), takes_numbers=not self.chance(self.lacks_numbers))
         for one in self.state.of_peer:
             kind = Type.PUBREL if one.is_received and self.chance(0.8) else Type.PUBLISH
             self.line.to_come.append((kind, one.identifier))
@@ -355,6 +353,7 @@ class Honest:
         if qos < 2 and self.chance(0.3):
             self.line.takes = self.draw.randrange(qos, 2)
         found = bytes([0x24, self.line.takes]) if self.line.takes < 2 else b""
+        found += b"" if self.line.takes_numbers else b"\x29\0"
         return found + (b"\x25\0" if not retain and self.chance(0.3) else b"")
 
     def _close(self, may_change: bool) -> None:
@@ -394,7 +393,7 @@ class Honest:
 
     def _hurry(self) -> None:
         """The tested end sends messages, to be answered later; to a server the client has to subscribe before."""
-        self._publish() if self.role == CLIENT or self.state.filters else self._request()
+        self._publish() if self.role == CLIENT or self.state.subscribed.standing else self._request()
 
     def _come_to_rest(self) -> None:
         """The tested end does all that it owes."""
@@ -425,6 +424,7 @@ class Honest:
 
     def _rest(self) -> None:
         if self._is_at_rest() and not self.line.is_early:
+            self.state.subscribed.past.clear()
             self._mark(REST)
 
     def _auth(self) -> None:
@@ -454,22 +454,18 @@ class Honest:
         taken |= set() if is_whole and self.line.is_accepted else self.state.discarded
         return self.draw.choice([one for one in IDENTIFIERS if one not in taken] or [None])
 
-    def _topic(self) -> tuple[str, int]:
-        """A topic, and the greatest QoS for it."""
-        if self.role == CLIENT:
-            return self.draw.choice(TOPICS), self.line.limits.qos
-        filters = list(self.state.filters) or [""]
-        one = self.draw.choice(filters)
-        return self.draw.choice(FILTERS.get(one, ("",))), self.state.filters.get(one, 0)
-
     def _next_message(self, is_whole: bool = True) -> Message | None:
-        """What the tested end may publish now. At QoS 0 it has the identifier 0."""
-        (topic, most), identifier = self._topic(), self._free_identifier(is_whole)
-        qos = min(self.draw.choice((0, 1, 1, 2, 2)), most)
-        if topic == "" or (qos > 0 and (identifier is None or not self._has_quota())):
+        """What the tested end may publish now, a server for a subscription. At QoS 0 it has the identifier 0."""
+        limits, identifier = self.line.limits, self._free_identifier(is_whole)
+        one = self.state.subscribed.some(self.draw) if self.role == SERVER else None
+        if self.role == SERVER and one is None:
             return None
-        retain = self.line.limits.retains and self.chance(0.4)
-        return Message(identifier or 0, qos, topic, retain) if qos > 0 else Message(0, 0, topic, retain)
+        qos = min(self.draw.choice((0, 1, 1, 2, 2)), one.qos if one else limits.qos)
+        if qos > 0 and (identifier is None or not self._has_quota()):
+            return None
+        retain = (one.may_retain() if one else limits.retains) and self.chance(0.4)
+        topic = self.draw.choice(one.topics() if one else TOPICS)
+        return Message(identifier if qos > 0 else 0, qos, topic, retain, number=one.number if one else None)
 
     def _publish(self) -> None:
         message = self._next_message()
@@ -493,10 +489,10 @@ class Honest:
         line.topics[alias] = topic
         return "" if is_known else topic, b"\x23" + number(alias)
 
-    def _publish_packet(self, message: Message, topic: str, alias: bytes = b"", dup: bool = False, is_own: bool = True) -> bytes:
+    def _publish_packet(self, message: Message, topic: str, alias: bytes = b"", dup: bool = False) -> bytes:
         properties = alias + (b"\1\1" if self.chance(0.1) else b"") + (b"\2\0\0\0\x3c" if self.chance(0.1) else b"")
-        if self.role == SERVER and is_own and self.chance(0.1):  # a client that sends one is in error
-            properties += b"\x0b\1"
+        has_number = message.number is not None and self.line.takes_numbers
+        properties += b"\x0b" + varint(message.number) if has_number else b""
         length = 1 if self.line.limits.size else 300 if "size" in self.bounds and self.chance(0.6) else self.draw.choice(PAYLOADS)
         identifier = number(message.identifier) if message.qos else b""
         return packet(0x30 | dup << 3 | message.qos << 1 | message.retain, text(topic) + identifier + listed(properties) + b"x" * length)
@@ -572,7 +568,7 @@ class Honest:
         self._peer_message(message)
 
     def _peer_message(self, message: Message, dup: bool = False) -> None:
-        self._peer(self._publish_packet(message, message.topic, dup=dup, is_own=False))
+        self._peer(self._publish_packet(message, message.topic, dup=dup))
         self.line.is_filled |= message.qos > 0
         if message.qos > 0:
             self._expect(self.role, ANSWERS[message.qos], message.identifier)
@@ -650,59 +646,53 @@ class Honest:
         if not free:
             return
         identifier, subscribes = self.draw.choice(free), self.chance(0.5 if self.is_fickle else 0.75)
-        known = [one for one in FILTERS if self.line.limits.wildcards or not {"+", "#"} & set(one)]
-        if not subscribes and self.state.filters and self.chance(0.8 if self.is_fickle else 0.6):
-            known = list(self.state.filters)
-        filters = [(one, self.draw.randrange(3)) for one in self.draw.sample(known, min(len(known), self.draw.randint(1, 2)))]
-        if len(filters) == 1 and self.chance(0.15):
-            filters.append((filters[0][0], self.draw.randrange(3)))
+        request = self._filters(subscribes)
         self.line.asked.add(identifier)
         self.line.is_filled = True
-        self.line.requests[identifier] = filters
-        body = b"".join(self._asked(one, qos) if subscribes else text(one) for one, qos in filters)
-        is_numbered = subscribes and self.role == CLIENT and self.line.limits.identifiers and self.chance(0.2)
-        properties = listed(b"\x0b\7" if is_numbered else b"")
-        self._say(CLIENT, packet(0x82 if subscribes else 0xA2, number(identifier) + properties + body))
-        names = [one for one, _ in filters]
-        self.line.unwanted[identifier] = set(names) - set(self.state.wanted)
-        if subscribes:
-            self.state.filters |= dict(filters)
-            self.state.heard.update(names)
-            self.state.wanted |= dict.fromkeys(names, filters)
-        else:
-            self.state.filters = {one: qos for one, qos in self.state.filters.items() if one not in names}
-            self.state.wanted = {one: last for one, last in self.state.wanted.items() if one not in names}
+        self.line.requests[identifier] = request
+        body = b"".join(text(one.filter) + (bytes([one.options]) if subscribes else b"") for one in request)
+        properties = b"" if request[0].number is None else b"\x0b" + varint(request[0].number)
+        self._say(CLIENT, packet(0x82 if subscribes else 0xA2, number(identifier) + listed(properties) + body))
+        subscribed = self.state.subscribed
+        self.line.unwanted[identifier] = {one.filter for one in request} - set(subscribed.wanted)
+        subscribed.subscribe(request) if subscribes else subscribed.unsubscribe(request)
         self._expect(SERVER, Type.SUBACK if subscribes else Type.UNSUBACK, identifier)
 
-    def _asked(self, one: str, qos: int) -> bytes:
-        """A filter of a SUBSCRIBE. A tested client may share it, or have No Local for one of its own."""
-        if self.role == CLIENT and self.line.limits.shares and self.chance(0.15):
-            return text(f"$share/g/{one}") + bytes([qos])
-        return text(one) + bytes([qos | 4 * (self.role == CLIENT and self.chance(0.1))])
+    def _filters(self, subscribes: bool) -> list[Subscription]:
+        """Those of a request; one may come twice."""
+        known, limits = [one for one in FILTERS if self.line.limits.wildcards or not {"+", "#"} & set(one)], self.line.limits
+        standing = list(self.state.subscribed.standing)
+        if not subscribes and standing and self.chance(0.8 if self.is_fickle else 0.6):
+            known = standing
+        names = self.draw.sample(known, min(len(known), self.draw.randint(1, 2)))
+        names *= 2 if len(names) == 1 and self.chance(0.15) else 1
+        if not subscribes:
+            return [Subscription(one) for one in names]
+        manner = self.manner if limits.shares else replace(self.manner, shares=0)
+        is_numbered = limits.identifiers and (self.role == CLIENT or self.line.takes_numbers) and self.chance(manner.numbers)
+        identifier = self.draw.choice((7, 7, 300)) if is_numbered else None
+        return [asked(self.draw, one, manner, identifier, may_exclude=self.role == CLIENT) for one in names]
 
     def _reply(self, say, kind: Type, identifier: int) -> None:
         self.line.asked.discard(identifier)
         code_for = self._granted if kind == Type.SUBACK else self._unsubscribed
-        codes = bytes(code_for(identifier, *request) for request in self.line.requests[identifier])
+        codes = bytes(code_for(identifier, one) for one in self.line.requests[identifier])
         say(packet(kind << 4, number(identifier) + b"\0" + codes))
 
-    def _granted(self, identifier: int, one: str, qos: int) -> int:
+    def _granted(self, identifier: int, one: Subscription) -> int:
         """What a SUBACK says of a filter. It may grant less than was asked for."""
-        code = self.draw.choice((qos, qos, qos, self.draw.randint(0, qos), 0x87))
-        if code >= 0x80:
-            self.state.filters.pop(one, None)
-            self.state.heard[one] -= 1
-        elif self.state.wanted.get(one) is self.line.requests[identifier]:
-            self.state.filters[one] = code
+        code = self.draw.choice((one.qos, one.qos, one.qos, self.draw.randint(0, one.qos), 0x87))
+        self.state.subscribed.answer(self.line.requests[identifier], one, code)
         return code
 
-    def _unsubscribed(self, identifier: int, one: str, qos: int) -> int:
+    def _unsubscribed(self, identifier: int, one: Subscription) -> int:
         """What an UNSUBACK says of one: that it is deleted, that it never was or is no more, or that it isn't given up. If it comes twice it is
         given up at its first place."""
         if self.chance(0.05):
             return 0x87
-        is_lacking = self.state.heard[one] <= 0 or (one in self.line.unwanted[identifier] and self.chance(0.5))
-        self.line.unwanted[identifier].add(one)
+        unwanted = self.line.unwanted[identifier]
+        is_lacking = self.state.subscribed.heard[one.filter] <= 0 or (one.filter in unwanted and self.chance(0.5))
+        unwanted.add(one.filter)
         return 0x11 if is_lacking else 0
 
 
@@ -710,10 +700,6 @@ class Honest:
 OFTEN = {Honest._publish: 6, Honest._answer: 8, Honest._peer_answer: 9, Honest._peer_publish: 5, Honest._send_again: 4}
 OFTEN |= {Honest._request: 3, Honest._ping: 1, Honest._release: 2, Honest._rest: 2, Honest._auth: 0.3}
 STEPS, SUMS = list(OFTEN), list(accumulate(OFTEN.values()))
-
-
-def listed(properties: bytes) -> bytes:
-    return varint(len(properties)) + properties
 
 
 # ---- records

@@ -188,6 +188,33 @@ def change_unsuback(draw: random.Random, parts: Parts) -> None:
         parts[at] = parts[at][:-1] + bytes([parts[at][-1] ^ 0x11])
 
 
+def change_publishes(draw: random.Random, parts: Parts) -> None:
+    """Some PUBLISHes that are sent have RETAIN 1, or no Subscription Identifier any more, or QoS 2 in place of 1, or another topic."""
+    places = [n for n, part in enumerate(parts) if part[0] == SENT and len(part) > 9 and part[5] >> 4 == 3 and part[6] < 0x80]
+    for at in draw.sample(places, min(len(places), 3)):
+        body = bytearray(parts[at][5:])
+        match draw.randrange(4):
+            case 0:
+                body[0] |= 1
+            case 1:
+                leave_out_number(body)
+            case 2 if body[0] & 0x06 == 0x02:
+                body[0] ^= 0x06
+            case 3 if body[2:4] != b"\0\0":
+                body[4:5] = draw.choice((b"b", b"y"))
+        parts[at] = record(SENT, bytes(body))
+
+
+def leave_out_number(body: bytearray) -> None:
+    """Takes a Subscription Identifier of one byte out of a PUBLISH, if that is its last property."""
+    at = 4 + int.from_bytes(body[2:4], "big") + 2 * bool(body[0] & 0x06)
+    end = at + 1 + body[at] if at < len(body) else 0
+    if body[end - 2 : end - 1] == b"\x0b" and end <= len(body):
+        del body[end - 2 : end]
+        body[at] -= 2
+        body[1] -= 2
+
+
 def break_off(draw: random.Random, parts: Parts) -> None:
     """A connection ends in the middle of a packet: one that is sent last, or one more."""
     ends = [n for n, part in enumerate(parts) if part[0] == CLOSE]
@@ -222,7 +249,7 @@ def cut(draw: random.Random, parts: Parts) -> None:
 GENTLE: tuple[Callable[[random.Random, Parts], None], ...] = (
     drop, drop, drop, double, double, move, swap, swap, swap_alike, swap_alike, put_mark, put_packet, put_packet, put_packet,
     put_disconnect, turn, cut_record, change_packet, change_packet, change_identifier, change_identifier, change_flags, change_session,
-    change_session, change_will, change_unsuback, break_off,
+    change_session, change_will, change_unsuback, change_publishes, change_publishes, break_off,
 )
 ROUGH = (change_body, put_remaining_length, put_length, cut)
 

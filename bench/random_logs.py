@@ -113,7 +113,9 @@ LACKS: Choices = ((b"\x28\0", b"\x28\1"), (b"\x29\0", b"\x29\1"), (b"\x2a\0", b"
 SUBSCRIPTION_IDENTIFIER = (b"\x0b\7",)
 LEAVING = (0x00, 0x00, 0x04, 0x80, 0x8C, 0x8E, 0x98, 0x9D)  # Reason Codes of a DISCONNECT; either end may not send all of them
 BOUNDS: Choices = (MAXIMUM_QOS, RETAIN_AVAILABLE, RETAIN_AVAILABLE, MAXIMUM_PACKET_SIZE)  # a CONNACK has at most one of them
-OF_PUBLISH: Choices = ((b"\2\0\0\0\x3c",), (b"\x0b\1",), (b"\x23\0\1", b"\x23\0\2"))
+EXPIRY_OF_MESSAGE, TOPIC_ALIAS = (b"\2\0\0\0\x3c",), (b"\x23\0\1", b"\x23\0\2")
+# What all SUBSCRIBEs of a session have, or some of them: Retain Handling 2, others, and Retain As Published.
+RETAINING = ((0x00,), (0x00,), (0x20,), (0x00, 0x10, 0x20, 0x08, 0x28))
 
 # What an end says of its own accord, each as often as it is in the list.
 SAID_BY_BOTH = [Type.PUBLISH] * 16 + [Type.PUBACK, Type.PUBREC, Type.PUBREL, Type.PUBCOMP] * 2 + [Type.DISCONNECT, Type.AUTH]
@@ -171,7 +173,9 @@ class Session:
         self.has_will = False  # the last CONNECT
         self.bursts = False  # the peer, on this connection
         self.is_fickle = False  # the client, on this connection
-        self.shares = self.chance(0.1)
+        self.shares = self.chance(0.4 if self.role == SERVER else 0.1)
+        self.numbers = draw.choice((0.05, 0.05, 0.9))  # how often there are Subscription Identifiers
+        self.retaining = draw.choice(RETAINING)
         self.retains = draw.choice((0.1, 0.1, 0.9))  # how often a PUBLISH has RETAIN 1
         self.tape = Tape(draw, self.role, self.has_releases)
         self.owed: dict[int, list[Owed]] = {CLIENT: [], SERVER: []}
@@ -245,6 +249,8 @@ class Session:
                 self._burst()
             case 4 | 5 | 6 if self.is_fickle:
                 self._subscribe_and_unsubscribe()
+            case 7 | 8 if self.role == SERVER:
+                self._subscribe_and_publish()
             case _:
                 for _ in range(self.draw.randint(0, 12)):
                     self._step()
@@ -267,6 +273,16 @@ class Session:
             self._say(CLIENT, self._packet(CLIENT, kind, self.draw.choice(IDENTIFIERS), self.draw.randint(1, 2)))
             if self.owed[SERVER] and self.chance(0.9):
                 self._say(SERVER, self._answer(SERVER))
+
+    def _subscribe_and_publish(self) -> None:
+        """The client subscribes, and the server sends anything, mostly after its answer."""
+        self.owed[SERVER] = []
+        for _ in range(self.draw.randint(1, 3)):
+            self._say(CLIENT, self._packet(CLIENT, Type.SUBSCRIBE, self.draw.choice(IDENTIFIERS), self.draw.randint(1, 2)))
+            if self.owed[SERVER] and self.chance(0.8):
+                self._say(SERVER, self._answer(SERVER))
+            for _ in range(self.draw.randint(0, 3)):
+                self._say(SERVER, self._packet(SERVER, Type.PUBLISH, self.draw.choice(IDENTIFIERS)))
 
     def _close(self) -> None:
         if self.is_left:
@@ -399,8 +415,7 @@ class Session:
 
     def _properties(self, likely: float, *choices: tuple[bytes, ...]) -> bytes:
         """A property list."""
-        chosen = self._chosen(likely, *choices)
-        return varint(len(chosen)) + chosen
+        return listed(self._chosen(likely, *choices))
 
     def _connect(self, is_clean: bool) -> bytes:
         properties = self._chosen(0.8, SESSION_EXPIRY_INTERVAL) + self._chosen(0.15, *OF_CONNECT, AUTHENTICATION_METHOD)
@@ -419,7 +434,7 @@ class Session:
         else:
             chosen += self._chosen(0.4 if session_present else 0.25, self.draw.choice(BOUNDS))
         chosen += self._chosen(0.1, *LACKS) if self.role == CLIENT else b""
-        return packet(0x20, bytes([session_present, code]) + varint(len(chosen)) + chosen)
+        return packet(0x20, bytes([session_present, code]) + listed(chosen))
 
     def _publish(self, end: int, identifier: int, qos: int, dup: bool) -> bytes:
         dup = dup and qos > 0
@@ -429,7 +444,8 @@ class Session:
             self.in_flight[end].append((Type.PUBLISH, identifier, qos))
             if qos == 2 and peer == self.role and not dup:
                 self.to_release.append(identifier)
-        properties = self._properties(0.12, *OF_PUBLISH)
+        likely = max(0.12, self.numbers / 2) if end == self.role == SERVER else 0.12
+        properties = listed(self._chosen(0.12, EXPIRY_OF_MESSAGE) + self._chosen(likely, SUBSCRIPTION_IDENTIFIER) + self._chosen(0.12, TOPIC_ALIAS))
         has_alias = properties[-3:-1] == b"\x23\0"  # the Topic Alias is the last property
         topic = "" if has_alias and self.chance(0.5) else self.draw.choice(TOPICS)
         body = text(topic) + (number(identifier) if qos > 0 else b"") + properties + b"x"
@@ -455,15 +471,16 @@ class Session:
         filters = [self.draw.choice(SHARED if self.shares and self.chance(0.3) else self._filters()) for _ in range(amount)]
         has_options = kind == Type.SUBSCRIBE
         body = b"".join(text(one) + (bytes([self._options()]) if has_options else b"") for one in filters)
-        properties = self._properties(0.05, EXPLANATIONS[1], *([SUBSCRIPTION_IDENTIFIER] if has_options else []))
+        number_given = self._chosen(self.numbers, SUBSCRIPTION_IDENTIFIER) if has_options else b""
+        properties = listed(self._chosen(0.05, EXPLANATIONS[1]) + number_given)
         return packet(kind << 4 | 2, number(identifier) + properties + body)
 
     def _filters(self) -> tuple[str, ...]:
         return FILTERS[:3] if self.is_fickle else FILTERS
 
     def _options(self) -> int:
-        """Of a SUBSCRIBE: a Maximum QoS, and sometimes No Local."""
-        return self.draw.randrange(3) | (4 if self.chance(0.1) else 0)
+        """Of a SUBSCRIBE: a Maximum QoS, what is said of retained messages, and sometimes No Local."""
+        return self.draw.randrange(3) | self.draw.choice(self.retaining) | (4 if self.chance(0.1) else 0)
 
     def _reply(self, kind: Type, identifier: int, amount: int) -> bytes:
         """A SUBACK or UNSUBACK, mostly with as many Reason Codes as there were filters."""
@@ -476,13 +493,18 @@ class Session:
         return packet(0xE0, b"" if self.chance(0.4) else code + self._properties(0.5, SESSION_EXPIRY_INTERVAL))
 
 
+def listed(properties: bytes) -> bytes:
+    """A property list of these."""
+    return varint(len(properties)) + properties
+
+
 def connect(is_clean: bool, properties: bytes, name: str = "c", will: tuple[int, bool] | None = None, keep_alive: int = 60) -> bytes:
     """A CONNECT. Of a Will are given its QoS and Will Retain."""
     flags, rest = 2 if is_clean else 0, b""
     if will is not None:
         qos, retain = will
         flags, rest = flags | will_flags(qos, retain), b"\0" + text("w") + text("x")
-    return packet(0x10, text("MQTT") + bytes([5, flags]) + number(keep_alive) + varint(len(properties)) + properties + text(name) + rest)
+    return packet(0x10, text("MQTT") + bytes([5, flags]) + number(keep_alive) + listed(properties) + text(name) + rest)
 
 
 def will_flags(qos: int, retain: bool) -> int:

@@ -3,7 +3,8 @@
 It is a part of rules_table.py, which knows the statements and their citations. Whether a row says the truth of its demand is for its
 reader. What is compared are names and numbers: a statement has a row that it judges; each of its citations has a row that names it; no row
 names a statement that isn't there; and the numbers at the page's top, and those in README.md, are those of its rows. A row is judged
-on request if a further statement judges it, with times if that is one on times, and no other row names one.
+on request if further statements alone judge it, with times if these are on times. Another row names one after these words: `B01; on
+request B08`.
 
 `unfound` alters the page in many ways, each of which has to be found: it is the self-test of all this.
 """
@@ -24,12 +25,18 @@ ENDS = ("client", "server", "both")
 JUDGED, IN_PART, ON_REQUEST, WITH_TIMES, SEE = "judged", "in part", "on request", "with times", "see"
 WORDS = (JUDGED, IN_PART, ON_REQUEST, WITH_TIMES, "not yet", "unseen", "nothing")  # those that are counted
 NAMING = (JUDGED, IN_PART, ON_REQUEST, WITH_TIMES, SEE)  # the rows that name statements
-ASKED = {ON_REQUEST: UNTIMED, WITH_TIMES: TIMED}  # the further statements, each of which only such rows name
+ASKED = {ON_REQUEST: UNTIMED, WITH_TIMES: TIMED}  # the further statements, which other rows name only after these words
 SENTENCE = re.compile(
     r"Of the (\d+) numbered demands of the standard (\d+) are judged, (\d+) in part, (\d+) on request, and (\d+) with times"
 )
 
 Statements = dict[str, set[str]]  # the citations of each, by its code
+
+
+def named_after(word: str, why: str) -> set[str]:
+    """The statements that stand after this word in a row's last cell, one after the other."""
+    lists = re.findall(rf"\b{word} ((?:{CODE.pattern}(?:, | and )?)+)", why)
+    return {code for one in lists for code in CODE.findall(one)}
 
 
 class Row(NamedTuple):
@@ -90,7 +97,8 @@ def wrong_names(page: str, all_rows: list[Row], statements: Statements) -> Itera
         if (row.here in NAMING) != bool(row.codes):
             yield f"{row.citation} ({row.here}) names {'a' if row.codes else 'no'} statement"
         for word, codes in ASKED.items():
-            if any((code in codes) != (row.here == word) for code in row.codes):
+            wanted = row.codes if row.here == word else named_after(word, row.why)
+            if wanted != row.codes.intersection(codes):
                 yield f"{row.citation} ({row.here}) names a statement that is judged {word}, or isn't"
         if row.here == SEE:
             yield from wrong_pointer(row, all_rows)
@@ -171,6 +179,8 @@ def flawed(page: str, readme: str, statements: Statements) -> Iterator[tuple[str
         (f"| {JUDGED} | W", "| unseen | W", "names a statement"),
         (f"| {JUDGED} | W", f"| {IN_PART} | W", "the counts aren't those of the rows"),
         (f"| {ON_REQUEST} | ", f"| {JUDGED} | ", "names a statement that is judged on request"),
+        (f"; {ON_REQUEST} B", "; B", "names a statement that is judged on request"),
+        (f"| {IN_PART} | B", f"| {IN_PART} | {ON_REQUEST} B", "names a statement that is judged on request"),
         (f"| {JUDGED} | W", f"| {ON_REQUEST} | W", "names a statement that is judged on request"),
         (f"| {WITH_TIMES} | ", f"| {ON_REQUEST} | ", "names a statement that is judged with times"),
         (f"| {ON_REQUEST} | ", f"| {WITH_TIMES} | ", "names a statement that is judged with times"),

@@ -4,11 +4,11 @@ Those of mq_rules_tests are read from its source: there their places are compute
 statements but W01 to W21, and the further ones that the program judges on request, those on times with moments. The rows here have
 these, and more of the others; they were written from the words.
 
-Their events are written in the words of crates/mq_rules/specs/Worked.antt, each of which is a function here. A packet
-has 10 bytes there, if nothing else is said.
+Their events are written in the words of crates/mq_rules/specs/Worked.antt and crates/mq_rules_tests/specs/Deliveries.antt, each of
+which is a function here. A packet has 10 bytes there, if nothing else is said.
 """
 import re
-from collections.abc import Callable, Container, Iterator
+from collections.abc import Callable, Container, Iterable, Iterator
 from dataclasses import dataclass, replace
 from pathlib import Path
 
@@ -21,9 +21,10 @@ from reading import (
 )
 from sessions import Log
 
-PROVED = Path(__file__).resolve().parent.parent / "crates/mq_rules_tests/src/worked_places.rt"
-PROVED_FAULTS = PROVED.parent / "worked.rt"
-PROVED_TIMED = PROVED.parent / "worked_times.rt"
+SOURCES = Path(__file__).resolve().parent.parent / "crates/mq_rules_tests/src"
+PROVED = (SOURCES / "worked_places.rt", SOURCES / "worked_matching_places.rt")
+PROVED_FAULTS = (SOURCES / "worked.rt", SOURCES / "worked_matching.rt")
+PROVED_TIMED = (SOURCES / "worked_times.rt",)
 CLAUSE = re.compile(r"ensures (\w+) \{ (applying|failing)(?:_timed)? (\w+) (\w+) \((.*)\) ≡ (.*) \}")
 MOMENT = re.compile(r"\((\d+), ")  # before an event
 TOKEN = re.compile(r"[()]|[^()\s]+")
@@ -163,6 +164,7 @@ class Worked:
 
 IDENTIFIERS = {
     "message_expiry": 0x02,
+    "identifier": 0x0B,
     "expiry": 0x11,
     "problem": 0x17,
     "response": 0x19,
@@ -212,6 +214,12 @@ def asks(filter: bytes) -> Callable[..., Packet]:
 
 def removes(*filters: bytes) -> Callable[[int], Packet]:
     return lambda i: packet(UNSUBSCRIBE, identifier=i, filters=[(filter, 0) for filter in filters])
+
+
+def subscribe(i: int, *asked: bytes | int, identifier: int | None = None) -> Packet:
+    """To filters, each followed by its options."""
+    filters = list(zip(asked[::2], asked[1::2]))
+    return packet(SUBSCRIBE, identifier=i, filters=filters, properties=given(identifier=identifier))
 
 
 def sends(item: Packet | Bad | Lost) -> Event:
@@ -281,6 +289,7 @@ WORDS: dict[str, Callable] = {
     "once": lambda dup, i: publish(1, i, dup),
     "exactly": lambda dup, i: publish(2, i, dup),
     "retained_once": lambda i: publish(1, i, retain=True),
+    "retained_exactly": lambda i: publish(2, i, retain=True),
     "expiring": lambda i: publish(2, i, message_expiry=60),
     "aliased": lambda topic, alias: publish(0, None, topic=bytes(topic), alias=alias),
     "subscribed": lambda: replace(publish(0, None), properties=[(0x0B, 7)]),
@@ -299,6 +308,15 @@ WORDS: dict[str, Callable] = {
     "asks_to_share": lambda: asks(b"$share/g/a")(1),
     "asks_misnamed": lambda: asks(b"$share/+/a")(1),
     "asks_no_local": lambda: asks(b"$share/g/a")(1, 4),
+    "codes": lambda text: text,
+    "asks": lambda i, filter, options: subscribe(i, filter, options),
+    "asks_two": lambda i, filter, options, other, more: subscribe(i, filter, options, other, more),
+    "asks_with_identifier": lambda i, filter, options: subscribe(i, filter, options, identifier=7),
+    "asks_two_with_identifier": lambda i, filter, options, other, more: subscribe(i, filter, options, other, more, identifier=7),
+    "removes": lambda i, filter: removes(filter)(i),
+    "delivers": lambda topic: publish(0, None, topic=topic),
+    "delivers_retained": lambda topic: publish(0, None, topic=topic, retain=True),
+    "resuming_without_identifiers": lambda: connack(True, identifiers=0),
     "Puback": acknowledges(PUBACK),
     "Pubrec": acknowledges(PUBREC),
     "Pubrel": acknowledges(PUBREL),
@@ -345,6 +363,8 @@ def argument(tokens: list[str]) -> object:
         return value(tokens)
     if token.isdecimal():
         return int(token)
+    if token[0] == '"':
+        return token[1:-1].encode()
     if token.startswith("packets."):
         return token.partition(".")[2]
     if token == NIL:
@@ -361,9 +381,9 @@ def read(text: str) -> list:
     return found
 
 
-def proved(source: Path = PROVED, rules: Container[str] | None = None) -> Iterator[Worked]:
-    """The worked logs of mq_rules_tests, or those of these statements. In its file on faults the places are those of faults."""
-    text = source.read_text()
+def proved(sources: Iterable[Path] = PROVED, rules: Container[str] | None = None) -> Iterator[Worked]:
+    """The worked logs of mq_rules_tests, or those of these statements. In its files on faults the places are those of faults."""
+    text = "".join(source.read_text() for source in sources)
     clauses = CLAUSE.findall(text)
     assert len(clauses) == text.count(" ensures "), "a worked log that can't be read"
     for name, word, end, rule, events, places in clauses:

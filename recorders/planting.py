@@ -107,13 +107,14 @@ def with_body(got: Packet, body: bytes, first: int | None = None) -> bytes:
 
 def republish(
     got: Packet, *, topic: bytes | None = None, qos: int | None = None, identifier: int | None = None,
-    dup: bool | None = None, payload: bytes | None = None, more: list[tuple[int, Value]] | None = None
+    dup: bool | None = None, payload: bytes | None = None, more: list[tuple[int, Value]] | None = None,
+    retain: bool | None = None, without: int | None = None
 ) -> bytes:
     """A PUBLISH with something else in it."""
     return publish((got.topic or b"") if topic is None else topic, got.payload if payload is None else payload,
                    got.qos if qos is None else qos, (got.identifier or 1) if identifier is None else identifier,
-                   dup=got.dup if dup is None else dup, retain=bool(got.first & 1),
-                   properties=[*got.properties, *(more or [])])
+                   dup=got.dup if dup is None else dup, retain=bool(got.first & 1) if retain is None else retain,
+                   properties=[*(one for one in got.properties if one[0] != without), *(more or [])])
 
 
 def reconnack(got: Packet, present: bool | None = None, more: list[tuple[int, Value]] | None = None,

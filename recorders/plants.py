@@ -550,6 +550,25 @@ def of_requests() -> Iterator[Plant]:
         yield Plant(f"V06-{name}", "V06", only, on(Type.DISCONNECT, lambda got, _: disconnect(4)))
 
 
+def of_matching() -> Iterator[Plant]:
+    """What breaks those of them on messages by the subscriptions that match."""
+    other: Change = on(Type.PUBLISH, lambda got, _: republish(got, topic=b"other/" + (got.topic or b"")))
+    above: Change = on(Type.PUBLISH, lambda got, state: None if got.qos else republish(
+        got, qos=2, identifier=60_000 + next_of(state)))
+    for name, only in {"granted": "shared-granted-2", "overlap": "shared-overlap", "retained": "shared-retained"}.items():
+        yield Plant(f"B08-{name}", "B08", only, other)
+    for name, only in {"granted": "shared-granted-1", "overlap": "shared-overlap"}.items():
+        yield Plant(f"B09-{name}", "B09", only, above)
+    unnumbered: Change = on(Type.PUBLISH, lambda got, _: republish(got, without=Prop.SUBSCRIPTION_IDENTIFIER))
+    for name, only in {"some": "subscribe-numbered", "overlap": "subscribe-overlap"}.items():
+        yield Plant(f"P02-{name}", "P02", only, unnumbered)
+    yield Plant("P02-resumed", "P02", "subscribe-numbered", resumed(unnumbered))
+    retained: Change = on(Type.PUBLISH, lambda got, _: republish(got, retain=True))
+    for code, only in {"R01": "subscribe-without-retained", "R02": "shared-retained"}.items():
+        yield Plant(code, code, only, retained)
+        yield Plant(f"{code}-resumed", code, only, resumed(retained))
+
+
 def is_of(scenario: str) -> Callable[[Packet, State], bool]:
     """The connection is this scenario's, by its Client Identifier: the exerciser's first look at a broker is no scenario."""
     return lambda _, state: state.connect is not None and scenario.encode() in (state.connect.client or b"")
@@ -559,5 +578,5 @@ def all_plants() -> dict[str, Plant]:
     """All of them, by their names."""
     groups = (of_bytes, of_values, of_messages, of_connections, of_limits, of_sessions, of_exchanges, of_subscriptions,
               of_rare_bytes, of_more_limits, of_identifiers, of_debts, of_quotas, of_rare_exchanges, of_rare_deliveries,
-              of_requests)
+              of_requests, of_matching)
     return {plant.name: plant for group in groups for plant in group()}

@@ -55,7 +55,7 @@ class Words(unittest.TestCase):
         kept = {(code, is_event) for code, both in CASES.items() for is_event in (True, False) if both[not is_event]}
         wide = {("S07", False)}  # 65,536 messages in flight: that log is too long for this test
         self.assertEqual(kept - met, wide)
-        own = {"C01", "C09", "C18", "C19", "V03", "V04", "V06", *(f"W{number:02}" for number in range(1, 22))}  # which say all
+        own = {"C01", "C09", "C18", "C19", "B08", "V03", "V04", "V06", *(f"W{number:02}" for number in range(1, 22))}  # which say all
         self.assertEqual(met - kept, {(code, False) for code in own})
         self.assertEqual(said("S07", Evidence(None, (65_536, 65_535))), "65536 in flight, at most 65535 allowed by default")
 

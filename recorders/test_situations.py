@@ -22,7 +22,7 @@ from exercising.client_verbs import HOSTS
 from exercising.client_verbs import NEEDS as CLIENT_NEEDS
 from exercising.evidence import CLOSE, OPEN, RECV, REST, SENT, Evidence, binding, events_of, read
 from exercising.outcome import Outcome
-from exercising.packets import PING, PONG, Prop, Type, acknowledgement, codes, connack, connect, packet, publish, subscribe, unsubscribe
+from exercising.packets import PING, PONG, Prop, Properties, Type, acknowledgement, codes, connack, connect, packet, publish, subscribe, unsubscribe
 from exercising.running import Fate, Result
 from exercising.situations import (
     PLAIN,
@@ -188,6 +188,50 @@ class Readings(unittest.TestCase):
             self.assertEqual([place.position for place in found if place.code == "B07"], wanted)
             self.assertEqual(["never-subscribed" in tags for tags in tags_at(read(log_of(*early, connack_), is_of_all=True), "B07")],
                              [True] * len(wanted))
+
+    def test_what_is_sent_by_subscriptions(self) -> None:
+        """By those of the session that match, also once they ended."""
+        share, plain = b"$share/g/t", b"t"
+        codes_ = {one: (SENT, codes(Type.SUBACK, 1, bytes((one,)))) for one in (0, 1, 0x87)}
+        numbered, ends = [(Prop.SUBSCRIPTION_IDENTIFIER, 7)], (RECV, unsubscribe(2, ["t"]))
+        none = [(OPEN, b""), (RECV, connect("a", True, [(Prop.SESSION_EXPIRY, 300)])),
+                (SENT, connack(False, 0, [(Prop.SUBSCRIPTION_IDENTIFIER_AVAILABLE, 0)]))]
+
+        def asked(name: bytes, options: int, properties: Properties = ()) -> Record:
+            return RECV, subscribe(1, [(name.decode(), options)], properties)
+
+        logs: list[tuple[list[Record], int, set[str]]] = [
+            ([], 1, set()), ([asked(plain, 1), codes_[1]], 1, set()), ([asked(plain, 1, numbered), codes_[1]], 1, {"P02"}),
+            ([asked(plain, 1, numbered)], 0, {"P02"}), ([asked(plain, 1, numbered), asked(b"#", 1), codes_[0x87]], 0, set()),
+            ([asked(b"#", 0), codes_[0x87], asked(plain, 1, numbered)], 0, {"P02"}),
+            ([asked(share, 1, numbered), codes_[1]], 1, {"B08", "B09", "P02", "R02"}), ([asked(share, 1), codes_[1]], 0, {"B08", "R02"}),
+            ([asked(share, 0x20), codes_[0]], 0, {"B08", "R01"}), ([asked(share, 8), codes_[0]], 0, {"B08"}),
+            ([asked(share, 0), codes_[0x87]], 0, {"B08"}), ([asked(share, 0), codes_[0], asked(plain, 0), codes_[0]], 0, {"B08"}),
+            ([asked(share, 0), codes_[0], asked(plain, 0x20), codes_[0]], 0, {"B08", "R02"}),
+            ([asked(plain, 0x20), codes_[0]], 0, {"R01"}), ([asked(plain, 0x28), codes_[0]], 0, set()),
+            ([asked(plain, 0), codes_[0], ends, asked(plain, 0x20), codes_[0]], 0, set()),
+            ([asked(plain, 0x20), codes_[0], (RECV, packet(Type.SUBSCRIBE, b"\0\1\0\0\2t#\0"))], 0, set()),
+            ([asked(share, 0), codes_[0], (CLOSE, b""), *opened(present=True)], 0, {"B08", "R02"}),
+            ([asked(share, 0), codes_[0], (CLOSE, b""), *opened()], 0, set()),
+        ]
+        for start in (opened(), none):
+            for events, qos, wanted in logs:
+                records = [*start, *events, (SENT, publish("t", b"", qos, 9))]
+                bad = {at: "W15" for at, (_, body) in enumerate(records, 1) if b"t#" in body}
+                places = read(log_of(*records), bad, is_of_all=True).places
+                found = {place.code for place in places if place.code in ("B08", "B09", "P02", "R01", "R02")}
+                is_later = any(kind == OPEN for kind, _ in events)
+                self.assertEqual(found, wanted if start is not none or is_later else wanted - {"P02"}, events)
+                self.assertFalse(read(log_of(*records), bad).tested & found)
+        resent = [*opened(), asked(share, 1), codes_[1], (SENT, publish("t", b"", 1, 9, dup=True))]
+        self.assertFalse({place.code for place in read(log_of(*resent), is_of_all=True).places} & {"B08", "B09", "P02", "R01", "R02"})
+
+    def test_a_topic_by_its_alias(self) -> None:
+        alias, share = [(Prop.TOPIC_ALIAS, 1)], (RECV, subscribe(1, [("$share/g/#", 0)]))
+        sent = [(SENT, publish("t", b"", 0, properties=alias)), (SENT, publish("", b"", 0, properties=alias))]
+        found = read(log_of(*opened(), share, *sent, (CLOSE, b""), *opened(present=True), sent[1]), is_of_all=True)
+        self.assertEqual([place.position for place in found.places if place.code == "R02"], [5, 6])
+        self.assertEqual([tags & {"hash", "new", "greeting"} for tags in tags_at(found, "R02")], [{"hash", "new"}] * 2)
 
     def test_after_a_second_connect(self) -> None:
         again = [(OPEN, b""), (RECV, connect("a", True)), (SENT, connack()), (RECV, connect("a", True))]

@@ -72,7 +72,7 @@ def report(judge: Judge) -> str:
 def chosen_for(path: Path) -> str:
     """A list of the statements by which a report was made: those of the suite on further ones were made by these too."""
     code = path.name[:3]
-    is_further = path.parent.name == "suite" and (code[0] in "FVDAK" or code in ("B05", "B06", "B07", "C24"))
+    is_further = path.parent.name == "suite" and (code[0] in "FVDAKPR" or code in ("B05", "B06", "B07", "B08", "B09", "C24"))
     return "times" if is_further else "default"
 
 
@@ -336,7 +336,7 @@ class Misuse(unittest.TestCase):
             self.assertEqual(self.answers("begin", judge, 0, 2), "refused")
             self.assertEqual(self.answers("new", judge, 0), "held")
             with self.assertRaises(Trouble):
-                judge.text("code", 96)
+                judge.text("code", 101)
             with self.assertRaises(Trouble):
                 judge.text("citation", 0, 2)
 

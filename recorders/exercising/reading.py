@@ -8,13 +8,13 @@ from dataclasses import dataclass, field
 from exercising.evidence import CLOSE, OPEN, RECV, REST, SENT, Event, Place, of_bytes, tags_of
 from exercising.errors import MOST_QOS, is_error, sets_alias
 from exercising.packets import RESERVED, Packet, Prop, Type
-from exercising.subscribed import Subscribed
+from exercising.subscribed import Subscribed, filter_tags, matches
 
 CAUSES = {Type.PUBREL: "E4", Type.SUBSCRIBE: "E5", Type.UNSUBSCRIBE: "E6"}  # the other three depend on more
 ANSWERS = {Type.PUBACK: "E1", Type.PUBREC: "E2", Type.PUBREL: "E3", Type.PUBCOMP: "E4", Type.SUBACK: "E5",
            Type.UNSUBACK: "E6"}
 ORDERED = ("E1", "E2", "E3")
-OF_SESSIONS = "SEB"  # the letters of the statements that are judged on accepted connections alone
+OF_SESSIONS = "SEBPR"  # the letters of the statements that are judged on accepted connections alone
 MANY = 4
 SMALL = 10  # a Receive Maximum
 LARGE = 8192  # bytes
@@ -178,7 +178,8 @@ class Reading:
             self._on_subscriptions(event)
 
     def _on_subscriptions(self, event: Event) -> None:
-        """B06 and B07: what a server says of the filters that are unsubscribed."""
+        """B06 and B07: what a server says of the filters that are unsubscribed. B08, B09, P02, R01 and R02: what it sends by those that
+        were subscribed."""
         here = self.here
         here.held.append(event)
         if here.connack is None and event.kind != CLOSE:
@@ -189,7 +190,8 @@ class Reading:
             return
         for one in held:
             for code, tags in self.subscribed.take(one).items():
-                self.place(code, more=tags | (tags_of(one.packet) if one.packet is not None else set()), at=one.position)
+                own = tags_of(one.packet) if one.packet is not None else set()
+                self.place(code, more=tags | own | self.history, at=one.position)
         if event.kind == CLOSE:
             self.subscribed.leave()
 
@@ -572,11 +574,11 @@ class Reading:
     def _delivers(self, packet: Packet, topic: bytes, tags: set[str]) -> None:
         """What is asked for, and what of it matches."""
         granted = [(name, most) for name, most in self.filters if most < RESERVED]
-        self.place("B01", more=filter_tags(granted) | self.history | tags)
+        self.place("B01", more=filter_tags(name for name, _ in granted) | self.history | tags)
         if packet.qos:
             matching = [(name, most) for name, most in granted if matches(name, topic)]
             ceiling = max((most for _, most in matching), default=0)
-            self.place("B02", f"granted-{ceiling}", more=filter_tags(matching) | self.history | tags)
+            self.place("B02", f"granted-{ceiling}", more=filter_tags(name for name, _ in matching) | self.history | tags)
 
     def _sent_message(self, packet: Packet, identifier: int, tags: set[str]) -> None:
         """A PUBLISH with a Packet Identifier."""
@@ -679,24 +681,3 @@ class Reading:
         self.here.is_left = True
         if not self.is_server:
             self.here.client_disconnect = self.here.client_disconnect or packet
-
-
-def filter_tags(filters: list[tuple[bytes, int]]) -> set[str]:
-    """What some filters are like."""
-    names = {name for name, _ in filters}
-    tags = {word for word, sign in (("plus", b"+"), ("hash", b"#")) if any(sign in name for name in names)}
-    tags |= {"plain-filter"} if any(not set(name) & set(b"+#") for name in names) else set()
-    return tags | ({"several-filters"} if len(names) > 1 else set())
-
-
-def matches(name: bytes, topic: bytes) -> bool:
-    """Whether a Topic Filter matches a Topic Name."""
-    if name[:1] in (b"#", b"+") and topic[:1] == b"$":
-        return False
-    levels, own = name.split(b"/"), topic.split(b"/")
-    for at, level in enumerate(levels):
-        if level == b"#":
-            return True
-        if at >= len(own) or level not in (b"+", own[at]):
-            return False
-    return len(levels) == len(own)

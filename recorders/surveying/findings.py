@@ -15,7 +15,7 @@ TABLE = "table.json"  # of a run, in its folder
 ABOUT = "survey.json"  # what was surveyed, in the folder of all
 PROVOKED, FOREIGN_SIGN, UNBOUND = "provoked", "out of reach", "unbound"
 NEED_RELEASES = ("L1", "L2", "L3")
-FAMILIES = "WCSELBFVDA"  # the order of reports
+FAMILIES = "WCSELBPRFVDA"  # the order of reports
 BESIDE = {"C24": "D"}  # those that stand there with another family
 
 

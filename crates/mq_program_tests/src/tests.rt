@@ -2,6 +2,8 @@
 
 mod converting;
 mod coverage;
+mod harness;
+mod matching;
 mod programs;
 mod times;
 mod troubles;

@@ -9,5 +9,7 @@ mod by_identifier;
 mod counted_by_identifier;
 mod worked;
 mod worked_filters;
+mod worked_matching;
+mod worked_matching_places;
 mod worked_places;
 mod worked_times;

@@ -104,7 +104,7 @@ static ROWS: [Row; 36] = [
             "mqjudge",
             "rules",
             "--statements",
-            "B,-B01,-B03,-B04,-B05,-B06,-B07",
+            "B,-B01,-B03,-B04,-B05,-B06,-B07,-B08,-B09",
         ],
         file: GOOD,
         input: GOOD,

@@ -1,4 +1,5 @@
 //! The statements on times, and the option that asks for them.
+use super::harness::{Judged, assert_rows};
 use mq_tasks_harness::{Desk, GOOD, does};
 use std::alloc::Global;
 use std::process::Abort;
@@ -42,9 +43,6 @@ const FAULTY_LINES: &str = "1 record 1 moment 0 OPEN\n\
     \x20 fault K01 MQTT-3.1.2-20,MQTT-3.2.2-21 A client isn't silent for longer than the Keep Alive. \
     (because of event 3: nothing came from the client for 2900000 microseconds, and the limit is 2250000)\n";
 
-// Words, the log, the status, and what is written.
-type Judged = (&'static [&'static str], &'static [u8], u8, &'static str);
-
 static CHECKS: [Judged; 10] = [
     (&["mqjudge", "check", "a.log"], SILENT, 0, PASS),
     (&["mqjudge", "check", "--all", "a.log"], SILENT, 0, PASS),
@@ -87,28 +85,6 @@ static CHECKS: [Judged; 10] = [
         FAIL_OF_SERVER,
     ),
 ];
-
-// Whether the program does this with these words and this log, and says nothing.
-fn is_done(
-    alloc: Global,
-    words: &'static [&'static str],
-    log: &'static [u8],
-    status: u8,
-    written: &str,
-) -> bool {
-    let mut desk = Desk::of(alloc, words, log, GOOD);
-    does(&mut desk, status, written, "")
-}
-
-// Asserts that it does for each row.
-fn assert_rows(rt: &(impl Abort + AllocGlobal), rows: &[Judged]) {
-    for (words, log, status, written) in rows {
-        assert!(rt;
-            is_done(rt.alloc(), *words, *log, *status, written),
-            "{words:?}"
-        );
-    }
-}
 
 #[test]
 fn judges_by_times_if_the_words_ask_for_it(rt: HostRuntime) {

@@ -1,7 +1,5 @@
 //! What an UNSUBACK says of filters, and the options that ask for it to be judged.
-use mq_tasks_harness::{Desk, GOOD, does};
-use std::alloc::Global;
-use std::process::Abort;
+use super::harness::{Judged, assert_rows};
 
 // A server that answers an UNSUBSCRIBE of `a`, which is subscribed, and of `b`, which never was:
 // its UNSUBACK says that the first subscription didn't exist, and that the second was deleted.
@@ -66,9 +64,6 @@ const FAULTY_LINES: &str = "1 record 1 OPEN\n\
     \x20 fault B07 sec-3.11.3 No UNSUBACK says that a filter was deleted which was never subscribed. \
     (because of event 6: the UNSUBSCRIBE, for a filter that was never subscribed)\n";
 
-// Words, the log, the status, and what is written.
-type Judged = (&'static [&'static str], &'static [u8], u8, &'static str);
-
 static CHECKS: [Judged; 10] = [
     (&["mqjudge", "check", "a.log"], CONFUSED, 0, PASS),
     (&["mqjudge", "check", "--all", "a.log"], CONFUSED, 1, BOTH),
@@ -111,28 +106,6 @@ static CHECKS: [Judged; 10] = [
         LISTED,
     ),
 ];
-
-// Whether the program does this with these words and this log, and says nothing.
-fn is_done(
-    alloc: Global,
-    words: &'static [&'static str],
-    log: &'static [u8],
-    status: u8,
-    written: &str,
-) -> bool {
-    let mut desk = Desk::of(alloc, words, log, GOOD);
-    does(&mut desk, status, written, "")
-}
-
-// Asserts that it does for each row.
-fn assert_rows(rt: &(impl Abort + AllocGlobal), rows: &[Judged]) {
-    for (words, log, status, written) in rows {
-        assert!(rt;
-            is_done(rt.alloc(), *words, *log, *status, written),
-            "{words:?}"
-        );
-    }
-}
 
 #[test]
 fn judges_what_an_unsuback_says_if_the_words_ask_for_it(rt: HostRuntime) {
