@@ -65,7 +65,7 @@ abbrev pub finds_F02 : Option ConnackNote → Note → Bool
 finds_F02 connack n = is_some_and (λ w. w.has_wildcard) (sent_wishes n) && lacks_wildcards connack
 
 abbrev pub finds_F03 : Option ConnackNote → Note → Bool
-finds_F03 connack n = is_some_and (λ w. w.has_subscription_identifier) (sent_wishes n) && lacks_identifiers connack
+finds_F03 connack n = is_some_and (λ w. is_some w.subscription_identifier) (sent_wishes n) && lacks_identifiers connack
 
 abbrev pub finds_F04 : Option ConnackNote → Note → Bool
 finds_F04 connack n = is_some_and (λ w. w.has_share) (sent_wishes n) && lacks_shares connack

@@ -271,10 +271,10 @@ fn uses_wildcard(note: &Note) -> bool
 
 // F03: whether a SUBSCRIBE with a Subscription Identifier is sent.
 fn uses_identifier(note: &Note) -> bool
-    ensures { result ≡ is_some_and (λ w. w.has_subscription_identifier) (wishes_of note.now) }
+    ensures { result ≡ is_some_and (λ w. is_some w.subscription_identifier) (wishes_of note.now) }
 {
     match note.sent_wishes() {
-        Some(wishes) => wishes.has_subscription_identifier,
+        Some(wishes) => wishes.subscription_identifier.is_some(),
         None => false,
     }
 }

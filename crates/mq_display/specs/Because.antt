@@ -1,7 +1,7 @@
 -- The words on what a fault conflicts with, on its line under its event: by its statement, whether an event is to blame, and the numbers that the statement compares.
 use Rattle.std.specs.Prelude.{ℕ, List, [], ◌++◌, codes, decimal, Option, Some, None}
 use Rattle.mq_rules.specs.declared.rule.Rule.{Rule}
-use Rattle.mq_rules.specs.declared.rule.Rule.TheVariants.{W01, W02, W03, W04, W05, W06, W07, W08, W09, W10, W11, W12, W13, W14, W15, W16, W17, W18, W19, W20, W21, C01, C02, C03, C04, C05, C06, C07, C08, C09, C10, C11, C12, C13, C14, C15, C16, C17, C18, C19, C20, C21, C22, C23, S01, S02, S03, S04, S05, S06, S07, E1A, E1R, E1O, E2A, E2R, E2O, E3A, E3R, E3O, E4A, E4R, E5A, E5R, E6A, E6R, E7R, L1, L2, L3, B01, B02, B03, B04, B05, B06, B07, B08, B09, P02, R01, R02, F01, F02, F03, F04, F05, F06, V03, V04, V06, C24, D01, D02, D03, D05, A01, A02, A03, K01, K02}
+use Rattle.mq_rules.specs.declared.rule.Rule.TheVariants.{W01, W02, W03, W04, W05, W06, W07, W08, W09, W10, W11, W12, W13, W14, W15, W16, W17, W18, W19, W20, W21, C01, C02, C03, C04, C05, C06, C07, C08, C09, C10, C11, C12, C13, C14, C15, C16, C17, C18, C19, C20, C21, C22, C23, S01, S02, S03, S04, S05, S06, S07, E1A, E1R, E1O, E2A, E2R, E2O, E3A, E3R, E3O, E4A, E4R, E5A, E5R, E6A, E6R, E7R, L1, L2, L3, B01, B02, B03, B04, B05, B06, B07, B08, B09, P01, P02, R01, R02, F01, F02, F03, F04, F05, F06, V03, V04, V06, C24, D01, D02, D03, D05, A01, A02, A03, K01, K02}
 use Rattle.mq_rules.specs.declared.evidence.Evidence.{Evidence}
 use Rattle.mq_rules.specs.declared.evidence.Numbers.{Numbers}
 use Rattle.mq_rules.specs.declared.evidence.Numbers.TheVariants.{Nothing, One, Two}
@@ -89,6 +89,7 @@ event_words B06 = codes ": the UNSUBSCRIBE, for a filter that was subscribed"
 event_words B07 = codes ": the UNSUBSCRIBE, for a filter that was never subscribed"
 event_words B08 = []
 event_words B09 = codes ": the SUBSCRIBE that matches"
+event_words P01 = codes ": the SUBSCRIBE that matches"
 event_words P02 = codes ": the SUBSCRIBE that matches"
 event_words R01 = codes ": the SUBSCRIBE that matches"
 event_words R02 = codes ": the SUBSCRIBE that matches"
@@ -221,6 +222,7 @@ lone_words B06 = []
 lone_words B07 = []
 lone_words B08 = []
 lone_words B09 = []
+lone_words P01 = []
 lone_words P02 = []
 lone_words R01 = []
 lone_words R02 = []

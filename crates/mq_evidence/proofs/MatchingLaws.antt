@@ -13,7 +13,7 @@ use Rattle.mq_rules.specs.Words.{is_some_and}
 use Rattle.mq_rules.specs.Notes.{Subscription, sent_publish, received_subscription}
 use Rattle.mq_rules.specs.Moments.{Moment, position, note, some, latest, IsDescending}
 use Rattle.mq_rules.specs.Subscriptions.{topic_of}
-use Rattle.mq_rules.specs.MatchingSubscriptions.{is_about, is_identified_at, subscribed_by}
+use Rattle.mq_rules.specs.MatchingSubscriptions.{identifier_at, is_about, subscribed_by}
 use Rattle.mq_rules.specs.Evidence.{nothing}
 use Rattle.mq_rules.proofs.Exports.{or_false}
 use Rattle.mq_filters.specs.Standings.{has_ceiling}
@@ -48,16 +48,16 @@ requests-kept test first begins inside at n m ms old begun new placed same befor
     go false false = or_false (some kept ms)
 
 -- a subscription that a SUBSCRIBE asks for matches the topic if one of its filters does, or one after its ShareName
-asked-about : (topic : List ℕ) (identified : Bool) (gs : List NotedFilter) → list_any (is_about topic) (subscribed_by identified gs []) ≡ list_any (λ g. is_among (λ filter. matches filter topic) g.filter) gs
-asked-about topic identified [] = refl
-asked-about topic identified (g ∷ gs) = ap (λ b. is_among (λ filter. matches filter topic) g.filter || b) (asked-about topic identified gs)
+asked-about : (topic : List ℕ) (identifier : Option ℕ) (gs : List NotedFilter) → list_any (is_about topic) (subscribed_by identifier gs []) ≡ list_any (λ g. is_among (λ filter. matches filter topic) g.filter) gs
+asked-about topic identifier [] = refl
+asked-about topic identifier (g ∷ gs) = ap (λ b. is_among (λ filter. matches filter topic) g.filter || b) (asked-about topic identifier gs)
 
 about-asked : (topic : List ℕ) (j : Moment) → asks_about topic j ≡ asks_for (λ filter. matches filter topic) (note j)
 about-asked topic j = go (received_subscription (note j))
   where
-    go : (o : Option Subscription) → list_any (is_about topic) (unwrap_or (option_map (λ s. subscribed_by (is_identified_at j) s.filters []) o) []) ≡ is_some_and (λ s. list_any (λ g. is_among (λ filter. matches filter topic) g.filter) s.filters) o
+    go : (o : Option Subscription) → list_any (is_about topic) (unwrap_or (option_map (λ s. subscribed_by (identifier_at j) s.filters []) o) []) ≡ is_some_and (λ s. list_any (λ g. is_among (λ filter. matches filter topic) g.filter) s.filters) o
     go None = refl
-    go (Some s) = asked-about topic (is_identified_at j) s.filters
+    go (Some s) = asked-about topic (identifier_at j) s.filters
 
 -- what is as late as just the SUBSCRIBEs that ask for such a subscription is the last of them
 pub last-asked : (topic : List ℕ) (ms : List Moment) (o : Option ℕ) → IsDescending ms → ((q : ℕ) → has_ceiling (nat_le q) o ≡ some (λ j. asks_for (λ filter. matches filter topic) (note j) && nat_le q (position j)) ms)

@@ -8,7 +8,7 @@ use Rattle.mq_rules.specs.declared.role.Role.TheVariants.{Client, Server}
 use Rattle.mq_rules.specs.declared.role.Tested.{Tested}
 use Rattle.mq_rules.specs.declared.fate.Fate.{Fate}
 use Rattle.mq_rules.specs.declared.rule.Rule.{Rule}
-use Rattle.mq_rules.specs.declared.rule.Rule.TheVariants.{S01, S02, S03, S04, S05, B01, B02, S07, E7R, E1A, E2A, E3A, E4A, E5A, E6A, E1O, E2O, E3O, B03, B04, B05, B06, B07, B09, P02, R01, R02, L1, L2, L3}
+use Rattle.mq_rules.specs.declared.rule.Rule.TheVariants.{S01, S02, S03, S04, S05, B01, B02, S07, E7R, E1A, E2A, E3A, E4A, E5A, E6A, E1O, E2O, E3O, B03, B04, B05, B06, B07, B09, P01, P02, R01, R02, L1, L2, L3}
 use Rattle.mq_rules.specs.declared.note.Note.{Note}
 use Rattle.mq_rules.specs.declared.note.Note.TheVariants as notes
 use Rattle.mq_rules.specs.declared.note.Seen.{Seen}
@@ -21,7 +21,7 @@ use Rattle.mq_rules.specs.Exchanges.{breaks_A, breaks_O, breaks_E7R}
 use Rattle.mq_rules.specs.Releases.{breaks_L1, breaks_L2, breaks_L3}
 use Rattle.mq_rules.specs.Subscriptions.{breaks_B01, breaks_B02, breaks_B03, breaks_B04, breaks_B05}
 use Rattle.mq_rules.specs.FurtherSubscriptions.{breaks_B06, breaks_B07, is_clear_before}
-use Rattle.mq_rules.specs.MatchingSubscriptions.{breaks_B09, breaks_P02, breaks_R01, breaks_R02}
+use Rattle.mq_rules.specs.MatchingSubscriptions.{breaks_B09, breaks_P01, breaks_P02, breaks_R01, breaks_R02}
 use Rattle.mq_rules.specs.Rules.{binds}
 use Rattle.mq_rules.specs.Statements.{Statement, on_bytes, on_past, in_session, at_release, at_rest, by_later, statement, is_so, is_so_under, where_accepted, fails}
 use Rattle.mq_rules.specs.Faults.{decided}
@@ -58,6 +58,7 @@ found-unshown role B05 f t m h = refl
 found-unshown role B06 f t m h = refl
 found-unshown role B07 f t m h = refl
 found-unshown role B09 f t m h = refl
+found-unshown role P01 f t m h = refl
 found-unshown role P02 f t m h = refl
 found-unshown role R01 f t m h = refl
 found-unshown role R02 f t m h = refl
@@ -82,7 +83,7 @@ and-false true = refl
 and-false false = refl
 
 unbroken : (role : Role) (r : Rule) (f : Fate) (p : Place3) (past : List Seen) → is_found r ≡ true → breaks_at (statement role r) f (newest (seen p notes.Open) past) ≡ false
-unfolding breaks_S01 breaks_S02 breaks_S03 breaks_S04 breaks_S05 breaks_S07 breaks_A breaks_O breaks_E7R breaks_L1 breaks_L2 breaks_L3 breaks_B01 breaks_B02 breaks_B03 breaks_B04 breaks_B05 breaks_B06 breaks_B07 breaks_B09 breaks_P02 breaks_R01 breaks_R02 is_binding
+unfolding breaks_S01 breaks_S02 breaks_S03 breaks_S04 breaks_S05 breaks_S07 breaks_A breaks_O breaks_E7R breaks_L1 breaks_L2 breaks_L3 breaks_B01 breaks_B02 breaks_B03 breaks_B04 breaks_B05 breaks_B06 breaks_B07 breaks_B09 breaks_P01 breaks_P02 breaks_R01 breaks_R02 is_binding
 unbroken Client S01 f p past h = refl
 unbroken Server S01 f p past h = refl
 unbroken role S02 f p past h = refl
@@ -108,6 +109,7 @@ unbroken role B05 f p past h = refl
 unbroken role B06 f p past h = and-false (is_clear_before role f (newest (seen p notes.Open) past))
 unbroken role B07 f p past h = and-false (is_clear_before role f (newest (seen p notes.Open) past))
 unbroken role B09 f p past h = and-false (is_clear_before role f (newest (seen p notes.Open) past))
+unbroken role P01 f p past h = and-false (is_clear_before role f (newest (seen p notes.Open) past))
 unbroken role P02 f p past h = and-false (is_clear_before role f (newest (seen p notes.Open) past))
 unbroken role R01 f p past h = and-false (is_clear_before role f (newest (seen p notes.Open) past))
 unbroken role R02 f p past h = and-false (is_clear_before role f (newest (seen p notes.Open) past))
@@ -150,6 +152,7 @@ direct role B05 h = refl
 direct role B06 h = refl
 direct role B07 h = refl
 direct role B09 h = refl
+direct role P01 h = refl
 direct role P02 h = refl
 direct role R01 h = refl
 direct role R02 h = refl
@@ -248,6 +251,7 @@ on-session tested B05 h = refl
 on-session tested B06 h = refl
 on-session tested B07 h = refl
 on-session tested B09 h = refl
+on-session tested P01 h = refl
 on-session tested P02 h = refl
 on-session tested R01 h = refl
 on-session tested R02 h = refl

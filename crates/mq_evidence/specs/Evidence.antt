@@ -12,7 +12,7 @@ use Rattle.mq_rules.specs.declared.role.Role.TheVariants.{Client, Server}
 use Rattle.mq_rules.specs.declared.role.Tested.{Tested}
 use Rattle.mq_rules.specs.declared.fate.Fate.{Fate}
 use Rattle.mq_rules.specs.declared.rule.Rule.{Rule}
-use Rattle.mq_rules.specs.declared.rule.Rule.TheVariants.{W01, W02, W03, W04, W05, W06, W07, W08, W09, W10, W11, W12, W13, W14, W15, W16, W17, W18, W19, W20, W21, C01, C02, C03, C04, C05, C06, C07, C08, C09, C10, C11, C12, C13, C14, C15, C16, C17, C18, C19, C20, C21, C22, C23, S01, S02, S03, S04, S05, S06, S07, E1A, E1R, E1O, E2A, E2R, E2O, E3A, E3R, E3O, E4A, E4R, E5A, E5R, E6A, E6R, E7R, L1, L2, L3, B01, B02, B03, B04, B05, B06, B07, B08, B09, P02, R01, R02, F01, F02, F03, F04, F05, F06, V03, V04, V06, C24, D01, D02, D03, D05, A01, A02, A03, K01, K02}
+use Rattle.mq_rules.specs.declared.rule.Rule.TheVariants.{W01, W02, W03, W04, W05, W06, W07, W08, W09, W10, W11, W12, W13, W14, W15, W16, W17, W18, W19, W20, W21, C01, C02, C03, C04, C05, C06, C07, C08, C09, C10, C11, C12, C13, C14, C15, C16, C17, C18, C19, C20, C21, C22, C23, S01, S02, S03, S04, S05, S06, S07, E1A, E1R, E1O, E2A, E2R, E2O, E3A, E3R, E3O, E4A, E4R, E5A, E5R, E6A, E6R, E7R, L1, L2, L3, B01, B02, B03, B04, B05, B06, B07, B08, B09, P01, P02, R01, R02, F01, F02, F03, F04, F05, F06, V03, V04, V06, C24, D01, D02, D03, D05, A01, A02, A03, K01, K02}
 use Rattle.mq_rules.specs.declared.note.Note.{Note}
 use Rattle.mq_rules.specs.declared.note.Seen.{Seen}
 use Rattle.mq_rules.specs.declared.packet_note.PacketFields.{PacketFields}
@@ -27,7 +27,7 @@ use Rattle.mq_rules.specs.Counter.{in_flight_before}
 use Rattle.mq_rules.specs.Exchanges.{Exchange, causes, answers, first_unanswered, is_other_unanswered, publish_puback, publish_pubrec, pubrec_pubrel, pubrel_pubcomp, subscribe_suback, unsubscribe_unsuback}
 use Rattle.mq_rules.specs.Releases.{brings, ends, releases_message, first_brought}
 use Rattle.mq_rules.specs.Subscriptions.{Standing, standing_from, standing_at, topic_of}
-use Rattle.mq_rules.specs.MatchingSubscriptions.{is_about, is_identified_at, subscribed_by}
+use Rattle.mq_rules.specs.MatchingSubscriptions.{identifier_at, is_about, subscribed_by}
 use Rattle.mq_rules.specs.KeepAlive.{is_heard, keep_alive, silence, client_limit, server_limit}
 use Rattle.mq_rules.specs.Statements.{fails}
 use Rattle.mq_rules.specs.Faults.{decided}
@@ -203,7 +203,7 @@ last_matching role f topic k = latest (λ j. list_any (λ s. matches s.filter to
 
 -- a SUBSCRIBE is received at j, and a subscription that it asks for matches the topic, whatever its SUBACK says
 abbrev pub asks_about : List ℕ → Moment → Bool
-asks_about topic j = list_any (is_about topic) (unwrap_or (option_map (λ s. subscribed_by (is_identified_at j) s.filters []) (received_subscription (note j))) [])
+asks_about topic j = list_any (is_about topic) (unwrap_or (option_map (λ s. subscribed_by (identifier_at j) s.filters []) (received_subscription (note j))) [])
 
 -- the last one in the session
 abbrev pub last_asking : Role → Fate → List ℕ → Moment → Option Moment
@@ -382,6 +382,7 @@ reason role B06 = by_request unsubscribe_unsuback
 reason role B07 = by_request unsubscribe_unsuback
 reason role B08 = by_itself
 reason role B09 = by_matching role
+reason role P01 = by_matching role
 reason role P02 = by_matching role
 reason role R01 = by_matching role
 reason role R02 = by_matching role

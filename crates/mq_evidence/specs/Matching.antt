@@ -1,4 +1,4 @@
--- What is kept of the Topic Filters that were asked for in a session, for B09, P02, R01 and R02 (MQTT 5.0, sections 3.8.3 and 4.8.2).
+-- What is kept of the Topic Filters that were asked for in a session, for B09, P01, P02, R01 and R02 (MQTT 5.0, sections 3.8.3 and 4.8.2).
 use Rattle.std.specs.Prelude.{ℕ, ◌≡◌, nat_le, Bool, ◌&&◌, ◌||◌, List}
 use Rattle.std.specs.List.{list_any}
 use Rattle.mq_rules.specs.declared.note.Note.{Note}

@@ -1,4 +1,4 @@
--- The topics of what is sent on a connection, for B02, B09, P02, R01 and R02.
+-- The topics of what is sent on a connection, for B02, B09, P01, P02, R01 and R02.
 use Rattle.std.specs.Prelude.{ℕ, ◌≡◌, ◌==◌, nat_eq, Bool, cond, List, length, Option, Some, None}
 use Rattle.std.specs.Option.{option_or, option_and_then}
 use Rattle.indexmap.specs.IndexMap.{get}

@@ -5,7 +5,7 @@ use Rattle.std.specs.FinMap.{entries}
 use Rattle.mq_rules.specs.declared.role.Tested.{Tested}
 use Rattle.mq_rules.specs.declared.fate.Fate.{Fate}
 use Rattle.mq_rules.specs.declared.rule.Rule.{Rule}
-use Rattle.mq_rules.specs.declared.rule.Rule.TheVariants.{S01, S02, S03, S04, S05, B01, B02, S07, E7R, E1A, E2A, E3A, E4A, E5A, E6A, E1O, E2O, E3O, B03, B04, B05, B06, B07, B09, P02, R01, R02, L1, L2, L3}
+use Rattle.mq_rules.specs.declared.rule.Rule.TheVariants.{S01, S02, S03, S04, S05, B01, B02, S07, E7R, E1A, E2A, E3A, E4A, E5A, E6A, E1O, E2O, E3O, B03, B04, B05, B06, B07, B09, P01, P02, R01, R02, L1, L2, L3}
 use Rattle.mq_rules.specs.declared.note.Seen.{Seen}
 use Rattle.mq_rules.specs.declared.fault.Fault.{Fault}
 use Rattle.mq_rules.specs.declared.faults.FaultKey.{FaultKey}
@@ -74,6 +74,7 @@ is_found B05 = true
 is_found B06 = true
 is_found B07 = true
 is_found B09 = true
+is_found P01 = true
 is_found P02 = true
 is_found R01 = true
 is_found R02 = true
@@ -91,6 +92,7 @@ needs_standing _ = false
 -- those whose evidence needs the Topic Filters that were asked for
 abbrev pub needs_asked : Rule → Bool
 needs_asked B09 = true
+needs_asked P01 = true
 needs_asked P02 = true
 needs_asked R01 = true
 needs_asked R02 = true

@@ -1,6 +1,6 @@
-//! The last SUBSCRIBE of each Topic Filter (MQTT 5.0, sections 3.8.4 and 4.7): of those that stand
-//! whatever comes for the evidence of B02, of all that were asked for for that of B09, P02, R01 and
-//! R02.
+//! The last SUBSCRIBE of each Topic Filter (MQTT 5.0, sections 3.8.4 and 4.7). The evidence of B02
+//! looks at those that stand whatever comes, and that of B09, P01, P02, R01 and R02 at all that were
+//! asked for.
 ghost use Rattle.std.specs.Prelude.{◌≡◌, ◌∷◌, [], ◌||◌, ◌&&◌, nat_le, ℕ, Bool, true, None, List, OnOk, cond};
 ghost use Rattle.std.specs.List.{list_any};
 ghost use Rattle.std.specs.String.{string_bytes, string_eq};

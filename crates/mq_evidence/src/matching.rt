@@ -1,14 +1,12 @@
 //! The last SUBSCRIBE of the session that asks for a topic, refused or not (MQTT 5.0, sections
-//! 3.8.3 and 4.8.2): the evidence of B09, P02, R01 and R02.
-ghost use Rattle.std.specs.Prelude.{◌≡◌, ◌||◌, ◌&&◌, nat_le, ℕ, Bool, List, false, Some, None, cond, is_some, option_map, OnOk, IfSome};
-ghost use Rattle.std.specs.List.{after_first, list_any};
+//! 3.8.3 and 4.8.2): the evidence of B09, P01, P02, R01 and R02.
+ghost use Rattle.std.specs.Prelude.{◌≡◌, ◌||◌, ◌&&◌, nat_le, ℕ, Bool, List, false, None, cond, is_some, option_map, OnOk, IfSome};
+ghost use Rattle.std.specs.List.{list_any};
 ghost use Rattle.std.specs.Option.{option_and_then};
 ghost use Rattle.mq_rules.specs.declared.role.Role.{Role as TheRole};
 ghost use Rattle.mq_rules.specs.declared.fate.Fate.{Fate as TheFate};
-ghost use Rattle.mq_rules.specs.Words.{only};
 ghost use Rattle.mq_rules.specs.Moments.{Moment, note as note_of, position as position_at};
 ghost use Rattle.mq_rules.specs.Subscriptions.{topic_of};
-ghost use Rattle.mq_rules.specs.Wishes.{is_share as begins_share, is_slash, shared_filter as filter_after_name};
 ghost use Rattle.mq_filters.specs.Standings.{allows};
 ghost use Rattle.mq_evidence.specs.Evidence.{found, by_matching, last_asking};
 ghost use Rattle.mq_evidence.specs.Stretches.{Stretches, Comes, advanced, nothing_yet, stretches_before};
@@ -17,7 +15,9 @@ ghost use Rattle.mq_evidence.specs.Matching.{is_among, asks_for, IsMatching};
 use crate::last_requests::LastRequests;
 use crate::topics::Topics;
 use crate::turn::Turn;
-use mq_rules::{Evidence, Memory, Note, NotedFilter, PacketFields, PublishNote};
+use mq_rules::{
+    Evidence, Memory, Note, NotedFilter, PacketFields, PublishNote, is_share, shared_filter,
+};
 use std::alloc::Global;
 
 /// The last SUBSCRIBE of each Topic Filter that was asked for in the session, and the topics of
@@ -27,26 +27,6 @@ pub struct Matching {
     alloc: Global,
     topics: Topics,
     requests: LastRequests,
-}
-
-// What stands after the first `/`: nothing if there is none.
-fn later_levels(text: &str) -> &str
-    ensures { result.now ≡ after_first is_slash text.now }
-{
-    match text.split_once('/') {
-        Some((_, levels)) => levels,
-        None => "",
-    }
-}
-
-// The filter of a shared subscription, after its ShareName; of any other nothing.
-fn shared_filter(filter: &str) -> Option<&str>
-    ensures { option_map (λ text. text.now) result ≡ only (begins_share filter.now) (Some (filter_after_name filter.now)) }
-{
-    if !filter.starts_with("$share/") {
-        return None;
-    }
-    Some(later_levels(later_levels(filter)))
 }
 
 // Keeps the position of a SUBSCRIBE for one of its filters, and if that is shared for the filter
@@ -60,8 +40,8 @@ fn ask(
     ensures { OnOk result ((test : List ℕ → Bool) (first : ℕ) → list_any (allows test first) requests.new ≡ (list_any (allows test first) requests.old || (is_among test filter.now && nat_le first position))) }
 {
     requests.stand(alloc, filter, position)?;
-    if let Some(shared) = shared_filter(filter) {
-        requests.stand(alloc, shared, position)?;
+    if is_share(filter) {
+        requests.stand(alloc, shared_filter(filter), position)?;
     }
     Ok(())
 }

@@ -1,5 +1,5 @@
 //! The topic of what is sent, by its Topic Name or its Topic Alias (MQTT 5.0, section 3.3.2.3.4):
-//! for the evidence of B02, B09, P02, R01 and R02.
+//! for the evidence of B02, B09, P01, P02, R01 and R02.
 ghost use Rattle.std.specs.Prelude.{◌≡◌, ◌==◌, nat_eq, ℕ, Option, Some, length, not, option_map, OnOk};
 ghost use Rattle.std.specs.Option.{option_or};
 ghost use Rattle.indexmap.specs.IndexMap.{get};

@@ -61,14 +61,14 @@ pub struct SessionTrail {
     /// the evidence of B01 and B02 needs them: a trail that isn't asked for it keeps none.
     subscriptions: Option<Subscriptions>,
     /// The last SUBSCRIBE of each Topic Filter that was asked for in the session. Only the evidence
-    /// of B09, P02, R01 and R02 needs it: a trail that isn't asked for it keeps none.
+    /// of B09, P01, P02, R01 and R02 needs it: a trail that isn't asked for it keeps none.
     matching: Option<Matching>,
 }
 
 impl SessionTrail {
     /// Before any event, for this tested end. It finds evidence of B01 and B02 only if it is to
-    /// keep the Topic Filters that stand, and of B09, P02, R01 and R02 only if it is to keep those
-    /// that were asked for.
+    /// keep the Topic Filters that stand, and of B09, P01, P02, R01 and R02 only if it is to keep
+    /// those that were asked for.
     pub fn new(alloc: Global, tested: Tested, keeps_standing: bool, keeps_asked: bool) -> Self
         ensures agrees { IsTrail result tested (Some Void) [] }
         ensures keeps { is_some result.subscriptions ≡ keeps_standing }
@@ -197,7 +197,7 @@ impl SessionTrail {
         Ok(Some(evidence))
     }
 
-    // That of B09, P02, R01 and R02, if the filters that were asked for are kept.
+    // That of B09, P01, P02, R01 and R02, if the filters that were asked for are kept.
     fn of_delivering(&self, note: &Note) -> Option<Evidence>
         ensures { (tested : TheTested) (at : ThePlace) (fate : TheFate) (past : List Seen) → IsTrail self.now tested (Some fate) past → result ≡ only (is_some self.now.matching) (Some (found (by_matching tested.role) (Some fate) None (newest (seen at note.now) past))) }
     {
@@ -302,6 +302,7 @@ impl SessionTrail {
             Rule::B06 => Some(waiting.requests.of_untruth(note)),
             Rule::B07 => Some(waiting.requests.of_untruth(note)),
             Rule::B09 => self.of_delivering(note),
+            Rule::P01 => self.of_delivering(note),
             Rule::P02 => self.of_delivering(note),
             Rule::R01 => self.of_delivering(note),
             Rule::R02 => self.of_delivering(note),
@@ -314,8 +315,8 @@ impl SessionTrail {
 
     /// What a fault of this statement at an event conflicts with, if it is one of those whose
     /// evidence it finds: those on sessions, B01 and B02 only if it keeps the Topic Filters that
-    /// stand, B09, P02, R01 and R02 only if it keeps those that were asked for. It is asked before
-    /// the event is taken in.
+    /// stand, B09, P01, P02, R01 and R02 only if it keeps those that were asked for. It is asked
+    /// before the event is taken in.
     ///
     /// # Errors
     ///

@@ -19,7 +19,10 @@ fn needs(need: Need, rule: Rule) -> bool
 {
     match need {
         Need::Standing => matches!(rule, Rule::B01 | Rule::B02),
-        Need::Asked => matches!(rule, Rule::B09 | Rule::P02 | Rule::R01 | Rule::R02),
+        Need::Asked => matches!(
+            rule,
+            Rule::B09 | Rule::P01 | Rule::P02 | Rule::R01 | Rule::R02
+        ),
     }
 }
 

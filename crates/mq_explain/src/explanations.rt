@@ -100,6 +100,7 @@ pub fn explanation(rule: Rule) -> &'static str
         Rule::B07 => further::B07,
         Rule::B08 => further::B08,
         Rule::B09 => further::B09,
+        Rule::P01 => further::P01,
         Rule::P02 => further::P02,
         Rule::R01 => further::R01,
         Rule::R02 => further::R02,

@@ -84,8 +84,8 @@ fn explains_what_an_unsuback_may_say(rt: HostRuntime) {
     assert!(rt; explanation(Rule::B07).starts_with(deleted));
 }
 
-// Statements on one PUBLISH: on its topic, its QoS, its Subscription Identifier and its RETAIN.
-static OF_DELIVERIES: [(Rule, &str); 5] = [
+// Statements on one PUBLISH: on its topic, its QoS, its Subscription Identifiers and its RETAIN.
+static OF_DELIVERIES: [(Rule, &str); 6] = [
     (
         Rule::B08,
         "B08 server MQTT-3.3.2-3\nA PUBLISH from the server matches a subscription, where some are shared.\n\nWhy: ",
@@ -93,6 +93,10 @@ static OF_DELIVERIES: [(Rule, &str); 5] = [
     (
         Rule::B09,
         "B09 server MQTT-3.8.4-8,MQTT-4.8.2-3\nA PUBLISH isn't at a QoS above what was granted, where some are shared.\n\nWhy: ",
+    ),
+    (
+        Rule::P01,
+        "P01 server sec-3.3.4\nA Subscription Identifier of a PUBLISH is that of a matching subscription.\n\nWhy: ",
     ),
     (
         Rule::P02,

@@ -23,7 +23,7 @@ received size a b fields = notes.Recv (items.Packet (record { size = size; has_r
 
 -- a PUBLISH with this QoS
 abbrev pub at_qos : PublishNote → Qos → PacketFields
-at_qos p q = Publish (record { identifier = p.identifier; qos = q; duplicate = p.duplicate; retain = p.retain; topic = p.topic; topic_alias = p.topic_alias; uses_alias = p.uses_alias; has_message_expiry = p.has_message_expiry; has_subscription_identifier = p.has_subscription_identifier })
+at_qos p q = Publish (record { identifier = p.identifier; qos = q; duplicate = p.duplicate; retain = p.retain; topic = p.topic; topic_alias = p.topic_alias; uses_alias = p.uses_alias; has_message_expiry = p.has_message_expiry; has_subscription_identifier = p.has_subscription_identifier; subscription_identifiers = p.subscription_identifiers })
 
 unsubscribing-note : (bound : Bool) (size : ℕ) (fields : BareFields) → may_concern_subscriptions bound (bare_note Recv size (bare_fields Recv fields)) ≡ false
 unsubscribing-note bound size (bares.Publish identifier qos duplicate topic) = refl

@@ -9,7 +9,7 @@ use Rattle.mq_rules.specs.declared.role.Further.{Further}
 use Rattle.mq_rules.specs.declared.role.Tested.{Tested}
 use Rattle.mq_rules.specs.declared.fate.Fate.{Fate}
 use Rattle.mq_rules.specs.declared.rule.Rule.{Rule}
-use Rattle.mq_rules.specs.declared.rule.Rule.TheVariants.{S01, S02, S03, S04, S05, S06, S07, E1A, E1R, E1O, E2A, E2R, E2O, E3A, E3R, E3O, E4A, E4R, E5A, E5R, E6A, E6R, E7R, L1, L2, L3, B01, B02, B03, B04, B05, B06, B07, B08, B09, P02, R01, R02}
+use Rattle.mq_rules.specs.declared.rule.Rule.TheVariants.{S01, S02, S03, S04, S05, S06, S07, E1A, E1R, E1O, E2A, E2R, E2O, E3A, E3R, E3O, E4A, E4R, E5A, E5R, E6A, E6R, E7R, L1, L2, L3, B01, B02, B03, B04, B05, B06, B07, B08, B09, P01, P02, R01, R02}
 use Rattle.mq_rules.specs.declared.note.Note.{Note}
 use Rattle.mq_rules.specs.declared.note.Note.TheVariants as notes
 use Rattle.mq_rules.specs.declared.note.ItemNote.TheVariants as items
@@ -33,7 +33,7 @@ use Rattle.mq_rules.specs.Exchanges.{breaks_A, breaks_O, breaks_E7R, shows_R}
 use Rattle.mq_rules.specs.Releases.{breaks_L1, breaks_L2, breaks_L3}
 use Rattle.mq_rules.specs.Subscriptions.{breaks_B01, breaks_B02, breaks_B03, breaks_B04, breaks_B05}
 use Rattle.mq_rules.specs.FurtherSubscriptions.{is_clear_before, is_unsubscribed_so, breaks_B06, breaks_B07}
-use Rattle.mq_rules.specs.MatchingSubscriptions.{breaks_B08, breaks_B09, breaks_P02, breaks_R01, breaks_R02}
+use Rattle.mq_rules.specs.MatchingSubscriptions.{breaks_B08, breaks_B09, breaks_P01, breaks_P02, breaks_R01, breaks_R02}
 use Rattle.mq_rules.specs.FaultKeys.{FaultMap}
 use Rattle.mq_rules.specs.Growing.{Gains}
 use Rattle.mq_rules.proofs.Exports.{and_false, or_false, both_true, gains_nothing}
@@ -259,6 +259,11 @@ unfolding found_line lines line_of
 only-servers-B09 Client releases further h = absurd (cc)
 only-servers-B09 Server releases further h = refl
 
+only-servers-P01 : (role : Role) (releases : Bool) (further : Further) → binds P01 (record { role = role; releases = releases; further = further }) ≡ true → is_client role ≡ false
+unfolding found_line lines line_of
+only-servers-P01 Client releases further h = absurd (cc)
+only-servers-P01 Server releases further h = refl
+
 only-servers-P02 : (role : Role) (releases : Bool) (further : Further) → binds P02 (record { role = role; releases = releases; further = further }) ≡ true → is_client role ≡ false
 unfolding found_line lines line_of
 only-servers-P02 Client releases further h = absurd (cc)
@@ -287,7 +292,7 @@ is_plain_session rule = is_plain_rule rule || is_plain_subscription rule
 
 never : (role : Role) (releases : Bool) (further : Further) (rule : Rule) (e : Seen) (past : List Seen) → is_plain_session rule ≡ true → IsIdle role e past
     → IsNever (binds rule (record { role = role; releases = releases; further = further })) (statement role rule) (newest e past)
-unfolding breaks_S01 breaks_S02 breaks_S03 breaks_S04 breaks_S05 breaks_S07 breaks_A breaks_O breaks_L1 breaks_L2 breaks_L3 breaks_B01 breaks_B02 breaks_B03 breaks_B04 breaks_B05 breaks_B06 breaks_B07 breaks_B08 breaks_B09 breaks_P02 breaks_R01 breaks_R02 shows_R shows_S06
+unfolding breaks_S01 breaks_S02 breaks_S03 breaks_S04 breaks_S05 breaks_S07 breaks_A breaks_O breaks_L1 breaks_L2 breaks_L3 breaks_B01 breaks_B02 breaks_B03 breaks_B04 breaks_B05 breaks_B06 breaks_B07 breaks_B08 breaks_B09 breaks_P01 breaks_P02 breaks_R01 breaks_R02 shows_R shows_S06
 never role releases further S01 e past chosen idle = λ bound f. and-first _ _ (none-passes _ _ (untaken role e.note idle.unspoken))
 never role releases further S02 e past chosen idle = λ bound f. and-first _ _ (none-passes _ _ idle.unspoken.resend)
 never role releases further S03 e past chosen idle = λ bound f. none-passes _ _ idle.unspoken.resend
@@ -325,6 +330,7 @@ never role releases further B06 e past chosen idle = λ bound f. undeleted role 
 never role releases further B07 e past chosen idle = λ bound f. undeleted role f e past _ idle.unspoken.deletion
 never role releases further B08 e past chosen idle = λ bound f. and-second _ _ (none-passes _ _ (idle.unspoken.publish (only-servers-B08 role releases further bound)))
 never role releases further B09 e past chosen idle = λ bound f. and-second _ _ (none-passes _ _ (idle.unspoken.publish (only-servers-B09 role releases further bound)))
+never role releases further P01 e past chosen idle = λ bound f. and-second _ _ (none-passes _ _ (idle.unspoken.publish (only-servers-P01 role releases further bound)))
 never role releases further P02 e past chosen idle = λ bound f. and-second _ _ (none-passes _ _ (idle.unspoken.publish (only-servers-P02 role releases further bound)))
 never role releases further R01 e past chosen idle = λ bound f. and-second _ _ (none-passes _ _ (idle.unspoken.publish (only-servers-R01 role releases further bound)))
 never role releases further R02 e past chosen idle = λ bound f. and-second _ _ (none-passes _ _ (idle.unspoken.publish (only-servers-R02 role releases further bound)))

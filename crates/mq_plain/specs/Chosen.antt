@@ -1,7 +1,7 @@
 -- The statements that are judged here.
 use Rattle.std.specs.Prelude.{Bool, false, ◌||◌, List, [], ◌∷◌}
 use Rattle.mq_rules.specs.declared.rule.Rule.{Rule}
-use Rattle.mq_rules.specs.declared.rule.Rule.TheVariants.{S01, S02, S03, S04, S05, S06, S07, E1A, E1R, E1O, E2A, E2R, E2O, E3A, E3R, E3O, E4A, E4R, E5A, E5R, E6A, E6R, E7R, L1, L2, L3, B01, B02, B03, B04, B05, B06, B07, B08, B09, P02, R01, R02, F01, F02, F03, F04, F05, F06, V03, V04, V06, C24, D01, D02, D03, D05, A01, A02, A03, K01, K02}
+use Rattle.mq_rules.specs.declared.rule.Rule.TheVariants.{S01, S02, S03, S04, S05, S06, S07, E1A, E1R, E1O, E2A, E2R, E2O, E3A, E3R, E3O, E4A, E4R, E5A, E5R, E6A, E6R, E7R, L1, L2, L3, B01, B02, B03, B04, B05, B06, B07, B08, B09, P01, P02, R01, R02, F01, F02, F03, F04, F05, F06, V03, V04, V06, C24, D01, D02, D03, D05, A01, A02, A03, K01, K02}
 use Rattle.mq_rules.specs.Rules.{same_rule}
 
 -- it is one of these
@@ -27,7 +27,7 @@ abbrev pub is_plain_connection : Rule → Bool
 is_plain_connection rule = is_one_of (F01 ∷ F02 ∷ F03 ∷ F04 ∷ F05 ∷ F06 ∷ V03 ∷ V04 ∷ V06 ∷ C24 ∷ D01 ∷ D02 ∷ D03 ∷ D05 ∷ A01 ∷ A02 ∷ A03 ∷ K01 ∷ K02 ∷ []) rule
 
 abbrev pub is_plain_subscription : Rule → Bool
-is_plain_subscription rule = is_one_of (B05 ∷ B06 ∷ B07 ∷ B08 ∷ B09 ∷ P02 ∷ R01 ∷ R02 ∷ []) rule
+is_plain_subscription rule = is_one_of (B05 ∷ B06 ∷ B07 ∷ B08 ∷ B09 ∷ P01 ∷ P02 ∷ R01 ∷ R02 ∷ []) rule
 
 -- all further statements
 abbrev pub is_plain_further : Rule → Bool

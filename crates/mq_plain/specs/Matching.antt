@@ -1,5 +1,5 @@
 -- Which subscriptions match what is delivered, found by looking back over a session.
-use Rattle.std.specs.Prelude.{ℕ, nat_le, Bool, ◌&&◌, not, cond, List, [], Option, Some, None, option_map, unwrap_or}
+use Rattle.std.specs.Prelude.{ℕ, nat_le, Bool, ◌&&◌, not, cond, List, [], Option, Some, None, is_some, option_map, unwrap_or}
 use Rattle.std.specs.Option.{option_and_then}
 use Rattle.std.specs.List.{list_any}
 use Rattle.mq_rules.specs.declared.role.Role.{Role}
@@ -13,10 +13,10 @@ use Rattle.mq_rules.specs.Notes.{qos_number, received_subscription, refuses, sen
 use Rattle.mq_rules.specs.Moments.{Moment, note, some}
 use Rattle.mq_rules.specs.Connections.{connection, first_connack, session}
 use Rattle.mq_rules.specs.Subscriptions.{asks_to_share, requested}
-use Rattle.mq_rules.specs.MatchingSubscriptions.{Subscribed, any_subscription, are_identified, are_shared, are_unretained, asks_in_vain, is_about, is_identified_at, may_be_retained, subscribed_by, subscribed_to}
+use Rattle.mq_rules.specs.MatchingSubscriptions.{Subscribed, any_subscription, are_identified, are_shared, are_unretained, asks_in_vain, identifier_at, is_about, is_named, may_be_retained, subscribed_by, subscribed_to}
 use Rattle.mq_plain.specs.declared.further.matching.Subscription.{Subscription}
 use Rattle.mq_plain.specs.declared.further.matching.Kind.{Kind}
-use Rattle.mq_plain.specs.declared.further.matching.Kind.TheVariants.{Any, Granted, Unidentified, Retained, InVain}
+use Rattle.mq_plain.specs.declared.further.matching.Kind.TheVariants.{Any, Granted, Named, Unidentified, Retained, InVain}
 use Rattle.mq_plain.specs.declared.further.delivering.Delivery.{Delivery}
 use Rattle.mq_plain.specs.Subscribed.{codes_after}
 use Rattle.mq_plain.specs.Deliveries.{topic_after}
@@ -24,13 +24,14 @@ use Rattle.mq_plain.specs.Deliveries.{topic_after}
 -- ---- one subscription
 
 abbrev pub subscription_of : Subscription → Subscribed
-subscription_of s = record { filter = s.filter.now; is_shared = s.is_shared; options = s.options; ceiling = s.ceiling; is_identified = s.is_identified }
+subscription_of s = record { filter = s.filter.now; is_shared = s.is_shared; options = s.options; ceiling = s.ceiling; identifier = s.identifier }
 
 -- the subscriptions of each kind
 abbrev pub of_kind : Kind → Subscribed → Bool
 of_kind Any = any_subscription
 of_kind (Granted qos) = λ s. nat_le qos s.ceiling
-of_kind Unidentified = λ s. not s.is_identified
+of_kind (Named identifier) = is_named identifier
+of_kind Unidentified = λ s. not (is_some s.identifier)
 of_kind Retained = may_be_retained
 of_kind InVain = asks_in_vain
 
@@ -38,16 +39,16 @@ of_kind InVain = asks_in_vain
 abbrev pub is_matched : Kind → List ℕ → Subscribed → Bool
 is_matched kind topic s = is_about topic s && of_kind kind s
 
--- So it is with what a filter of a SUBSCRIBE subscribes to, given its Reason Code if there is one.
-abbrev pub is_matched_with : Kind → List ℕ → Bool → NotedFilter → Option ℕ → Bool
-is_matched_with kind topic identified g None = is_matched kind topic (subscribed_to identified g (requested g))
-is_matched_with kind topic identified g (Some code) = not (refuses code) && is_matched kind topic (subscribed_to identified g code)
+-- the same of what a filter of a SUBSCRIBE subscribes to, given its Reason Code if there is one
+abbrev pub is_matched_with : Kind → List ℕ → Option ℕ → NotedFilter → Option ℕ → Bool
+is_matched_with kind topic identifier g None = is_matched kind topic (subscribed_to identifier g (requested g))
+is_matched_with kind topic identifier g (Some code) = not (refuses code) && is_matched kind topic (subscribed_to identifier g code)
 
 -- ---- those of a session
 
 -- the subscriptions of the SUBSCRIBE j, by what was answered in these events
 abbrev pub subscribed_after : List Seen → Moment → List Subscribed
-subscribed_after past j = unwrap_or (option_map (λ s. subscribed_by (is_identified_at j) s.filters (codes_after j past)) (received_subscription (note j))) []
+subscribed_after past j = unwrap_or (option_map (λ s. subscribed_by (identifier_at j) s.filters (codes_after j past)) (received_subscription (note j))) []
 
 -- one of them matches the topic, and is of the kind
 abbrev pub has_matching_after : Kind → List ℕ → List Seen → Moment → Bool
@@ -93,6 +94,9 @@ is_fault_B08 role f past p matching = is_sharing_after role f past && not (match
 
 abbrev pub is_fault_B09 : Role → Fate → List Seen → PublishNote → ((Subscribed → Bool) → Bool) → Bool
 is_fault_B09 role f past p matching = is_sharing_after role f past && (matching any_subscription && not (matching (λ s. nat_le (qos_number p.qos) s.ceiling)))
+
+abbrev pub is_fault_P01 : Role → Fate → List Seen → PublishNote → ((Subscribed → Bool) → Bool) → Bool
+is_fault_P01 role f past p matching = matching any_subscription && list_any (λ i. not (matching (is_named i))) p.subscription_identifiers
 
 abbrev pub is_fault_P02 : Role → Fate → List Seen → PublishNote → ((Subscribed → Bool) → Bool) → Bool
 is_fault_P02 role f past p matching = (takes_identifiers_after role past && are_identified matching) && not p.has_subscription_identifier

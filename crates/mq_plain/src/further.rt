@@ -28,7 +28,9 @@ use crate::evaluator::{OnSessions, Then};
 use crate::pass::judge_each;
 use authentication::{AskedAuthentication, SameMethod, WaitsForConnack};
 use deletions::{FoundedDeletions, KnownSubscriptions};
-use delivering::{ClearedRetain, GivenIdentifiers, SharedQos, SharedTopics, UnretainedShares};
+use delivering::{
+    ClearedRetain, GivenIdentifiers, OwnIdentifiers, SharedQos, SharedTopics, UnretainedShares,
+};
 use duties::{AnsweredConnect, ClosedMalformed, ClosedReconnect};
 use errors::ClosedMistaken;
 use evaluator::{Also, OnLater, OnPasts, judge_events};
@@ -85,23 +87,23 @@ type Subscriptions<Others> = Then<
     Then<OnSessions<KnownSubscriptions>, Then<OnSessions<FoundedDeletions>, Others>>,
 >;
 
-// B08, B09, P02, R01 and R02.
+// B08 and B09.
+type Shares<Others> = Then<OnSessions<SharedTopics>, Then<OnSessions<SharedQos>, Others>>;
+
+// P01, P02, R01 and R02.
 type Deliveries = Then<
-    OnSessions<SharedTopics>,
+    OnSessions<OwnIdentifiers>,
     Then<
-        OnSessions<SharedQos>,
-        Then<
-            OnSessions<GivenIdentifiers>,
-            Then<OnSessions<ClearedRetain>, OnSessions<UnretainedShares>>,
-        >,
+        OnSessions<GivenIdentifiers>,
+        Then<OnSessions<ClearedRetain>, OnSessions<UnretainedShares>>,
     >,
 >;
 
 /// Judges each event of a list, the oldest first, by the further statements: on one packet and on
 /// what came before it (F01 to F06, V03, V04, V06, A01 to A03), on what a server owes for what it
 /// received (C24, D01 to D03, D05), on the Keep Alive (K01, K02), and on subscriptions (B05 to B09,
-/// P02, R01, R02). A pair that already has a fault keeps it. Those that aren't asked for don't bind
-/// the tested end.
+/// P01, P02, R01, R02). A pair that already has a fault keeps it. Those that aren't asked for don't
+/// bind the tested end.
 ///
 /// # Errors
 ///
@@ -150,5 +152,5 @@ fn judge_subscriptions(
     ensures ok { IsPlaced (reverse seen.now) → OnOk result (Grows is_plain_subscription tested (reverse seen.now) faults.old faults.new) }
     ensures memory { IsPlaced (reverse seen.now) → OnErr result (GrowsWithin is_plain_subscription tested (reverse seen.now) faults.old faults.new) }
 {
-    judge_each::<Subscriptions<Deliveries>>(alloc, tested, seen, faults)
+    judge_each::<Subscriptions<Shares<Deliveries>>>(alloc, tested, seen, faults)
 }

@@ -6,7 +6,7 @@ use Rattle.mq_rules.specs.declared.role.Role.TheVariants.{Client, Server}
 use Rattle.mq_rules.specs.declared.role.Tested.{Tested}
 use Rattle.mq_rules.specs.declared.fate.Fate.{Fate}
 use Rattle.mq_rules.specs.declared.rule.Rule.{Rule}
-use Rattle.mq_rules.specs.declared.rule.Rule.TheVariants.{S01, S02, S03, S04, S05, S07, E1A, E1O, E2A, E2O, E3A, E3O, E4A, E5A, E6A, E7R, L1, L2, L3, B01, B02, B03, B04, B05, B06, B07, B08, B09, P02, R01, R02}
+use Rattle.mq_rules.specs.declared.rule.Rule.TheVariants.{S01, S02, S03, S04, S05, S07, E1A, E1O, E2A, E2O, E3A, E3O, E4A, E5A, E6A, E7R, L1, L2, L3, B01, B02, B03, B04, B05, B06, B07, B08, B09, P01, P02, R01, R02}
 use Rattle.mq_rules.specs.declared.note.Note.{Note}
 use Rattle.mq_rules.specs.declared.note.Note.TheVariants as notes
 use Rattle.mq_rules.specs.declared.note.Seen.{Seen}
@@ -22,7 +22,7 @@ use Rattle.mq_rules.specs.Exchanges.{Exchange, publish_puback, publish_pubrec, p
 use Rattle.mq_rules.specs.Releases.{breaks_L1, breaks_L2, breaks_L3}
 use Rattle.mq_rules.specs.Subscriptions.{breaks_B01, breaks_B02, breaks_B03, breaks_B04, breaks_B05}
 use Rattle.mq_rules.specs.FurtherSubscriptions.{is_clear_before, breaks_B06, breaks_B07}
-use Rattle.mq_rules.specs.MatchingSubscriptions.{breaks_B08, breaks_B09, breaks_P02, breaks_R01, breaks_R02}
+use Rattle.mq_rules.specs.MatchingSubscriptions.{breaks_B08, breaks_B09, breaks_P01, breaks_P02, breaks_R01, breaks_R02}
 use Rattle.mq_rules.specs.Statements.{Statement, on_bytes, on_past, in_session, at_release, at_rest, by_later, statement, knowing, knowing_resumed, where_placed}
 use Rattle.mq_rules.specs.Steps.{JudgedAtOnce, IsLate}
 use Rattle.mq_rules.proofs.BoolLaws.{both_true}
@@ -175,7 +175,7 @@ placed : (role : Role) (breaks : Fate → Moment → Bool) → ((log : List Seen
 placed role breaks = late_less role breaks (where_placed role breaks) (λ f m t. (both_true (breaks f m) (is_placed_release role f m) t).0)
 
 all_late : (role : Role) (rule : Rule) → IsLateInOrder role (statement role rule)
-unfolding breaks_S01 breaks_S02 breaks_S03 breaks_S04 breaks_S05 breaks_S07 breaks_L1 breaks_L2 breaks_L3 breaks_B01 breaks_B02 breaks_B03 breaks_B04 breaks_B05 breaks_B06 breaks_B07 breaks_B08 breaks_B09 breaks_P02 breaks_R01 breaks_R02
+unfolding breaks_S01 breaks_S02 breaks_S03 breaks_S04 breaks_S05 breaks_S07 breaks_L1 breaks_L2 breaks_L3 breaks_B01 breaks_B02 breaks_B03 breaks_B04 breaks_B05 breaks_B06 breaks_B07 breaks_B08 breaks_B09 breaks_P01 breaks_P02 breaks_R01 breaks_R02
 all_late role S01 = known_resumed role (breaks_S01 role) (by_subject role (breaks_S01 role) (taken_by role) (taken-needs role) (λ f m t. is_there _ (taken_by role (note m)) t))
 all_late role S02 = known role (breaks_S02 role) (by_subject role (breaks_S02 role) resend_of resend-needs (λ f m t. is_there _ (resend_of (note m)) t))
 all_late role S03 = by_subject role (λ f. breaks_S03) resend_of resend-needs (λ f m t. is_there _ (resend_of (note m)) t)
@@ -206,6 +206,7 @@ all_late role B07 = by_subject role (breaks_B07 role) (λ n. option_and_then del
     (λ f m t. is_there _ (option_and_then deletion_in (sent_fields (note m))) (both_true (is_clear_before role f m) _ t).1)
 all_late role B08 = by_subject role (breaks_B08 role) sent_publish publish-needs (λ f m t. is_there _ (sent_publish (note m)) (both_true (is_clear_before role f m) _ t).1)
 all_late role B09 = by_subject role (breaks_B09 role) sent_publish publish-needs (λ f m t. is_there _ (sent_publish (note m)) (both_true (is_clear_before role f m) _ t).1)
+all_late role P01 = by_subject role (breaks_P01 role) sent_publish publish-needs (λ f m t. is_there _ (sent_publish (note m)) (both_true (is_clear_before role f m) _ t).1)
 all_late role P02 = by_subject role (breaks_P02 role) sent_publish publish-needs (λ f m t. is_there _ (sent_publish (note m)) (both_true (is_clear_before role f m) _ t).1)
 all_late role R01 = by_subject role (breaks_R01 role) sent_publish publish-needs (λ f m t. is_there _ (sent_publish (note m)) (both_true (is_clear_before role f m) _ t).1)
 all_late role R02 = by_subject role (breaks_R02 role) sent_publish publish-needs (λ f m t. is_there _ (sent_publish (note m)) (both_true (is_clear_before role f m) _ t).1)

@@ -9,7 +9,7 @@ use Rattle.mq_rules.specs.Wishes.{asks_by_wildcard, is_misnamed, is_share, is_sh
 abbrev pub wishes_with_all : WishesNote → List AskedFilter → WishesNote
 wishes_with_all w fs = record {
   has_wildcard = w.has_wildcard || list_any (λ f. asks_by_wildcard f.filter) fs;
-  has_subscription_identifier = w.has_subscription_identifier;
+  subscription_identifier = w.subscription_identifier;
   has_share = w.has_share || list_any (λ f. is_share f.filter) fs;
   has_misnamed_share = w.has_misnamed_share || list_any (λ f. is_misnamed f.filter) fs;
   has_no_local_share = w.has_no_local_share || list_any is_shared_no_local fs;
@@ -26,7 +26,7 @@ or-none false = refl
 pub wishes_next : (w : WishesNote) (f : AskedFilter) (fs : List AskedFilter) → wishes_with_all (wishes_with w f) fs ≡ wishes_with_all w (f ∷ fs)
 wishes_next w f fs = λ i. record {
   has_wildcard = or-first w.has_wildcard (asks_by_wildcard f.filter) (list_any (λ f. asks_by_wildcard f.filter) fs) i;
-  has_subscription_identifier = w.has_subscription_identifier;
+  subscription_identifier = w.subscription_identifier;
   has_share = or-first w.has_share (is_share f.filter) (list_any (λ f. is_share f.filter) fs) i;
   has_misnamed_share = or-first w.has_misnamed_share (is_misnamed f.filter) (list_any (λ f. is_misnamed f.filter) fs) i;
   has_no_local_share = or-first w.has_no_local_share (is_shared_no_local f) (list_any is_shared_no_local fs) i;
@@ -35,7 +35,7 @@ wishes_next w f fs = λ i. record {
 pub wishes_none : (w : WishesNote) → wishes_with_all w [] ≡ w
 wishes_none w = λ i. record {
   has_wildcard = or-none w.has_wildcard i;
-  has_subscription_identifier = w.has_subscription_identifier;
+  subscription_identifier = w.subscription_identifier;
   has_share = or-none w.has_share i;
   has_misnamed_share = or-none w.has_misnamed_share i;
   has_no_local_share = or-none w.has_no_local_share i;

@@ -106,7 +106,7 @@ unfoldable pub applies_F03 : Moment → Bool
 applies_F03 k = is_some (sent_wishes (note k)) && lacks_identifiers (connack_before Client k)
 
 unfoldable pub breaks_F03 : Moment → Bool
-breaks_F03 k = is_some_and (λ w. w.has_subscription_identifier) (sent_wishes (note k)) && lacks_identifiers (connack_before Client k)
+breaks_F03 k = is_some_and (λ w. is_some w.subscription_identifier) (sent_wishes (note k)) && lacks_identifiers (connack_before Client k)
 
 -- F04: whenever a SUBSCRIBE is sent after a CONNACK with Shared Subscription Available 0, no filter asks for a shared subscription.
 unfoldable pub applies_F04 : Moment → Bool

@@ -1,8 +1,9 @@
--- Further statements on what is delivered: which subscriptions match it, also shared ones, and what they ask for (B08, B09, P02, R01 and R02; MQTT 5.0, sections 3.3.1.3, 3.3.4,
+-- Further statements on what is delivered: which subscriptions match it, also shared ones, and what they ask for (B08, B09, P01, P02, R01 and R02; MQTT 5.0, sections 3.3.1.3, 3.3.4,
 -- 3.8.3.1, 3.8.4 and 4.8.2). They are judged as B01 and B02 are, at a moment k whose connection is accepted and has the fate f, but only if the further statements are asked for,
 -- and in a session of which all SUBSCRIBEs and UNSUBSCRIBEs could be read. A subscription counts for the rest of its session, also after it was replaced or given up: what was on
 -- its way for it may still come.
-use Rattle.std.specs.Prelude.{ℕ, ◌/◌, ◌%◌, ◌==◌, nat_le, Bool, true, ◌&&◌, ◌||◌, not, cond, List, [], ◌∷◌, unwrap_or, option_map}
+use Rattle.std.specs.Prelude.{ℕ, ◌/◌, ◌%◌, ◌==◌, nat_le, nat_lt, Bool, true, ◌&&◌, ◌||◌, not, cond, List, [], ◌∷◌, length, Option, is_some, unwrap_or, option_map}
+use Rattle.std.specs.Option.{option_and_then}
 use Rattle.std.specs.List.{list_any}
 use Rattle.mq_topic.specs.Matching.{matches}
 use Rattle.mq_rules.specs.declared.role.Role.{Role}
@@ -20,39 +21,39 @@ use Rattle.mq_rules.specs.Wishes.{is_share, shared_filter}
 
 -- ---- subscriptions
 
--- A subscription: its Topic Filter, as the SUBSCRIBE has it; whether it is shared; its Subscription Options; the greatest QoS of what may be sent for it; and whether its SUBSCRIBE has
--- a Subscription Identifier.
+-- A subscription: its Topic Filter, as the SUBSCRIBE has it; whether it is shared; its Subscription Options; the greatest QoS of what may be sent for it; and the Subscription Identifier
+-- of its SUBSCRIBE, if that has one.
 pub record Subscribed : Type 0 where
   pub filter : List ℕ
   pub is_shared : Bool
   pub options : ℕ
   pub ceiling : ℕ
-  pub is_identified : Bool
+  pub identifier : Option ℕ
 
--- what a filter of a SUBSCRIBE with or without a Subscription Identifier subscribes to, if this QoS is granted
-abbrev pub subscribed_to : Bool → NotedFilter → ℕ → Subscribed
-subscribed_to identified g qos = record {
+-- what a filter of a SUBSCRIBE with this Subscription Identifier, or without one, subscribes to, if this QoS is granted
+abbrev pub subscribed_to : Option ℕ → NotedFilter → ℕ → Subscribed
+subscribed_to identifier g qos = record {
   filter = g.filter;
   is_shared = is_share g.filter;
   options = g.options;
   ceiling = qos;
-  is_identified = identified;
+  identifier = identifier;
 }
 
 -- The subscriptions of a SUBSCRIBE, given the Reason Codes of its SUBACK: a code of 0x80 or more refuses its filter, another one is the QoS that is granted, and a filter without a
 -- code may have the QoS that it asked for.
-abbrev pub subscribed_by : Bool → List NotedFilter → List ℕ → List Subscribed
-subscribed_by identified [] codes = []
-subscribed_by identified (g ∷ asked) [] = subscribed_to identified g (requested g) ∷ subscribed_by identified asked []
-subscribed_by identified (g ∷ asked) (code ∷ codes) = cond (refuses code) (subscribed_by identified asked codes) (subscribed_to identified g code ∷ subscribed_by identified asked codes)
+abbrev pub subscribed_by : Option ℕ → List NotedFilter → List ℕ → List Subscribed
+subscribed_by identifier [] codes = []
+subscribed_by identifier (g ∷ asked) [] = subscribed_to identifier g (requested g) ∷ subscribed_by identifier asked []
+subscribed_by identifier (g ∷ asked) (code ∷ codes) = cond (refuses code) (subscribed_by identifier asked codes) (subscribed_to identifier g code ∷ subscribed_by identifier asked codes)
 
--- the SUBSCRIBE that is received at this moment has a Subscription Identifier
-abbrev pub is_identified_at : Moment → Bool
-is_identified_at j = is_some_and (λ w. w.has_subscription_identifier) (received_wishes (note j))
+-- the Subscription Identifier of the SUBSCRIBE that is received at this moment, if one is and has one
+abbrev pub identifier_at : Moment → Option ℕ
+identifier_at j = option_and_then (λ w. w.subscription_identifier) (received_wishes (note j))
 
 -- the subscriptions of the SUBSCRIBE that is received at j, if one is, by what was answered before k
 abbrev pub subscribed_from : Moment → Moment → List Subscribed
-subscribed_from k j = unwrap_or (option_map (λ s. subscribed_by (is_identified_at j) s.filters (codes_answering j k)) (received_subscription (note j))) []
+subscribed_from k j = unwrap_or (option_map (λ s. subscribed_by (identifier_at j) s.filters (codes_answering j k)) (received_subscription (note j))) []
 
 -- The subscription matches the topic: its Topic Filter does, or if it is shared the filter after the ShareName (MQTT 5.0, sections 4.7 and 4.8.2).
 abbrev pub is_about : List ℕ → Subscribed → Bool
@@ -108,13 +109,24 @@ applies_B09 role f k = is_matched_so role f k (λ p matching. is_sharing role f 
 unfoldable pub breaks_B09 : Role → Fate → Moment → Bool
 breaks_B09 role f k = is_matched_so role f k (λ p matching. is_sharing role f k && (matching any_subscription && not (matching (λ s. nat_le (qos_number p.qos) s.ceiling))))
 
+-- the subscription has this Subscription Identifier
+abbrev pub is_named : ℕ → Subscribed → Bool
+is_named identifier s = is_id identifier s.identifier
+
+-- P01: whenever one has Subscription Identifiers, and some subscription matches its topic, each of them is that of a subscription that matches.
+unfoldable pub applies_P01 : Role → Fate → Moment → Bool
+applies_P01 role f k = is_matched_so role f k (λ p matching. nat_lt 0 (length p.subscription_identifiers) && matching any_subscription)
+
+unfoldable pub breaks_P01 : Role → Fate → Moment → Bool
+breaks_P01 role f k = is_matched_so role f k (λ p matching. matching any_subscription && list_any (λ i. not (matching (is_named i))) p.subscription_identifiers)
+
 -- The server takes Subscription Identifiers on k's connection: its CONNACK doesn't have Subscription Identifier Available 0 (MQTT 5.0, section 3.2.2.3.12).
 abbrev pub takes_identifiers : Role → Moment → Bool
 takes_identifiers role k = not (is_some_and (λ a. is_id 0 a.subscription_identifier_available) (connack_before role k))
 
 -- some subscription matches, and each one that does has a Subscription Identifier
 abbrev pub are_identified : ((Subscribed → Bool) → Bool) → Bool
-are_identified matching = matching any_subscription && not (matching (λ s. not s.is_identified))
+are_identified matching = matching any_subscription && not (matching (λ s. not (is_some s.identifier)))
 
 -- P02: whenever each subscription that matches has a Subscription Identifier, and some does match, the PUBLISH has one too.
 unfoldable pub applies_P02 : Role → Fate → Moment → Bool

@@ -5,7 +5,7 @@ use Rattle.std.specs.Str.{str_eq_ignore_ascii_case}
 use Rattle.mq_rules.specs.declared.role.Role.{Role}
 use Rattle.mq_rules.specs.declared.role.Role.TheVariants.{Client, Server}
 use Rattle.mq_rules.specs.declared.rule.Rule.{Rule}
-use Rattle.mq_rules.specs.declared.rule.Rule.TheVariants.{W01, W02, W03, W04, W05, W06, W07, W08, W09, W10, W11, W12, W13, W14, W15, W16, W17, W18, W19, W20, W21, C01, C02, C03, C04, C05, C06, C07, C08, C09, C10, C11, C12, C13, C14, C15, C16, C17, C18, C19, C20, C21, C22, C23, S01, S02, S03, S04, S05, S06, S07, E1A, E1R, E1O, E2A, E2R, E2O, E3A, E3R, E3O, E4A, E4R, E5A, E5R, E6A, E6R, E7R, L1, L2, L3, B01, B02, B03, B04, B05, B06, B07, B08, B09, P02, R01, R02, F01, F02, F03, F04, F05, F06, V03, V04, V06, C24, D01, D02, D03, D05, A01, A02, A03, K01, K02}
+use Rattle.mq_rules.specs.declared.rule.Rule.TheVariants.{W01, W02, W03, W04, W05, W06, W07, W08, W09, W10, W11, W12, W13, W14, W15, W16, W17, W18, W19, W20, W21, C01, C02, C03, C04, C05, C06, C07, C08, C09, C10, C11, C12, C13, C14, C15, C16, C17, C18, C19, C20, C21, C22, C23, S01, S02, S03, S04, S05, S06, S07, E1A, E1R, E1O, E2A, E2R, E2O, E3A, E3R, E3O, E4A, E4R, E5A, E5R, E6A, E6R, E7R, L1, L2, L3, B01, B02, B03, B04, B05, B06, B07, B08, B09, P01, P02, R01, R02, F01, F02, F03, F04, F05, F06, V03, V04, V06, C24, D01, D02, D03, D05, A01, A02, A03, K01, K02}
 use Rattle.mq_rules.specs.Rules.{StatementLine, lines}
 
 -- what a statement says of the tested end
@@ -89,6 +89,7 @@ sentence_of B06 = codes "No UNSUBACK says of a subscription that it doesn't exis
 sentence_of B07 = codes "No UNSUBACK says that a filter was deleted which was never subscribed."
 sentence_of B08 = codes "A PUBLISH from the server matches a subscription, where some are shared."
 sentence_of B09 = codes "A PUBLISH isn't at a QoS above what was granted, where some are shared."
+sentence_of P01 = codes "A Subscription Identifier of a PUBLISH is that of a matching subscription."
 sentence_of P02 = codes "A PUBLISH has a Subscription Identifier, if each matching subscription has."
 sentence_of R01 = codes "RETAIN is 0 where no matching subscription asks for anything else."
 sentence_of R02 = codes "No retained message is sent for a shared subscription."
@@ -214,6 +215,7 @@ citation_of B06 = for_server (codes "MQTT-3.10.4-1")
 citation_of B07 = for_server (codes "sec-3.11.3")
 citation_of B08 = for_server (codes "MQTT-3.3.2-3")
 citation_of B09 = for_server (codes "MQTT-3.8.4-8,MQTT-4.8.2-3")
+citation_of P01 = for_server (codes "sec-3.3.4")
 citation_of P02 = for_server (codes "MQTT-3.3.4-3")
 citation_of R01 = for_server (codes "MQTT-3.3.1-11,MQTT-3.3.1-12")
 citation_of R02 = for_server (codes "sec-4.8.2")

@@ -1,8 +1,8 @@
 -- What the statements look at in one event, and what one event is to them.
-use Rattle.std.specs.Prelude.{ℕ, ◌/◌, ◌%◌, ◌==◌, nat_le, nat_lt, Bool, true, false, ◌&&◌, ◌||◌, not, cond, if◌then◌else◌, List, [], ◌∷◌, length, map, slice_index, Option, Some, None, is_some, unwrap_or, option_map}
+use Rattle.std.specs.Prelude.{ℕ, ◌/◌, ◌%◌, ◌==◌, nat_le, nat_lt, Bool, true, false, ◌&&◌, ◌||◌, not, cond, if◌then◌else◌, List, [], ◌∷◌, length, map, filter_map, slice_index, Option, Some, None, is_some, unwrap_or, option_map}
 use Rattle.std.specs.Option.{option_and_then}
 use Rattle.mq_props.specs.Values.{Property}
-use Rattle.mq_props.specs.First.{first_byte, first_two_bytes, first_four_bytes, first_varint, first_text, first_pair}
+use Rattle.mq_props.specs.First.{first_byte, first_two_bytes, first_four_bytes, first_varint, as_varint, first_text, first_pair}
 use Rattle.mq_packet.specs.declared.packet.Qos.{Qos}
 use Rattle.mq_packet.specs.declared.packet.Qos.TheVariants as quality
 use Rattle.mq_packet.specs.declared.packet.AcknowledgementKind.{AcknowledgementKind}
@@ -125,6 +125,14 @@ expires_if_received directions.Recv properties = is_some (first_four_bytes 2 pro
 abbrev pub uses_alias : List ℕ → List Property → Bool
 uses_alias topic properties = is_some (first_two_bytes 35 properties) && (length topic == 0)
 
+-- the value of a property, if it is a Subscription Identifier (MQTT 5.0, section 3.3.2.3.8)
+abbrev pub identifier_in : Property → Option ℕ
+identifier_in p = cond (p.id == 11) (as_varint p.value) None
+
+-- the Subscription Identifiers of a list, in order
+abbrev pub subscription_identifiers_in : List Property → List ℕ
+subscription_identifiers_in properties = filter_map identifier_in properties
+
 -- of a PUBLISH (MQTT 5.0, section 3.3)
 abbrev pub publish_note : Direction → PublishFields → PublishNote
 publish_note direction p = record {
@@ -137,6 +145,7 @@ publish_note direction p = record {
   uses_alias = uses_alias p.topic p.properties.items;
   has_message_expiry = expires_if_received direction p.properties.items;
   has_subscription_identifier = is_some (first_varint 11 p.properties.items);
+  subscription_identifiers = only_list (is_sent_direction direction) (subscription_identifiers_in p.properties.items);
 }
 
 -- of a DISCONNECT (MQTT 5.0, section 3.14)
@@ -160,7 +169,7 @@ filter_note f = record { filter = f.filter; options = unwrap_or f.options 0 }
 
 -- of what a SUBSCRIBE asks for (MQTT 5.0, sections 3.8.2.1.2 and 3.8.3)
 abbrev pub wishes_note : List Property → List AskedFilter → WishesNote
-wishes_note properties filters = wishes_of (is_some (first_varint 11 properties)) filters
+wishes_note properties filters = wishes_of (first_varint 11 properties) filters
 
 -- of SUBSCRIBE and UNSUBSCRIBE (MQTT 5.0, sections 3.8 and 3.10)
 abbrev pub request_fields : Direction → RequestKind → ℕ → List Property → List AskedFilter → PacketFields
@@ -248,6 +257,7 @@ bare_publish_note direction identifier qos duplicate topic = record {
   uses_alias = false;
   has_message_expiry = false;
   has_subscription_identifier = false;
+  subscription_identifiers = [];
 }
 
 -- of a packet without properties that statements look at
@@ -711,20 +721,21 @@ needs_session note = is_release note || (is_some_and is_session_packet (sent_fie
 
 -- ---- memory
 
--- The note has a text or a list of its own, which may take memory: the Topic Name of a PUBLISH that was sent, the Topic Filters of a SUBSCRIBE or an UNSUBSCRIBE that was
--- received, the Reason Codes of a SUBACK or an UNSUBACK that was sent, or the Authentication Method of a CONNECT, or of an AUTH or a CONNACK that was sent.
+-- The note has a text or a list of its own, which may take memory: the Topic Name of a PUBLISH that was sent, or its Subscription Identifiers if they are several, the Topic Filters of
+-- a SUBSCRIBE or an UNSUBSCRIBE that was received, the Reason Codes of a SUBACK or an UNSUBACK that was sent, if they are several, or the Authentication Method of a CONNECT, or of an
+-- AUTH or a CONNACK that was sent.
 abbrev pub keeps_text : PacketFields → Bool
 keeps_text (Connect c method) = is_some method
 keeps_text (Connack c method) = is_some method
-keeps_text (Publish p) = not (length p.topic == 0)
+keeps_text (Publish p) = not (length p.topic == 0) || nat_lt 1 (length p.subscription_identifiers)
 keeps_text (Puback identifier code) = false
 keeps_text (Pubrec identifier code) = false
 keeps_text (Pubrel identifier code) = false
 keeps_text (Pubcomp identifier code) = false
 keeps_text (Subscribe identifier filters wishes) = not (length filters == 0)
-keeps_text (Suback identifier codes) = not (length codes == 0)
+keeps_text (Suback identifier codes) = nat_lt 1 (length codes)
 keeps_text (Unsubscribe identifier filters) = not (length filters == 0)
-keeps_text (Unsuback identifier codes) = not (length codes == 0)
+keeps_text (Unsuback identifier codes) = nat_lt 1 (length codes)
 keeps_text Pingreq = false
 keeps_text Pingresp = false
 keeps_text (Disconnect d) = false

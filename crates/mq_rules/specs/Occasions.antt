@@ -4,7 +4,7 @@ use Rattle.mq_rules.specs.declared.role.Role.{Role}
 use Rattle.mq_rules.specs.declared.role.Tested.{Tested}
 use Rattle.mq_rules.specs.declared.fate.Fate.{Fate}
 use Rattle.mq_rules.specs.declared.rule.Rule.{Rule}
-use Rattle.mq_rules.specs.declared.rule.Rule.TheVariants.{W01, W02, W03, W04, W05, W06, W07, W08, W09, W10, W11, W12, W13, W14, W15, W16, W17, W18, W19, W20, W21, C01, C02, C03, C04, C05, C06, C07, C08, C09, C10, C11, C12, C13, C14, C15, C16, C17, C18, C19, C20, C21, C22, C23, S01, S02, S03, S04, S05, S06, S07, E1A, E1R, E1O, E2A, E2R, E2O, E3A, E3R, E3O, E4A, E4R, E5A, E5R, E6A, E6R, E7R, L1, L2, L3, B01, B02, B03, B04, B05, B06, B07, B08, B09, P02, R01, R02, F01, F02, F03, F04, F05, F06, V03, V04, V06, C24, D01, D02, D03, D05, A01, A02, A03, K01, K02}
+use Rattle.mq_rules.specs.declared.rule.Rule.TheVariants.{W01, W02, W03, W04, W05, W06, W07, W08, W09, W10, W11, W12, W13, W14, W15, W16, W17, W18, W19, W20, W21, C01, C02, C03, C04, C05, C06, C07, C08, C09, C10, C11, C12, C13, C14, C15, C16, C17, C18, C19, C20, C21, C22, C23, S01, S02, S03, S04, S05, S06, S07, E1A, E1R, E1O, E2A, E2R, E2O, E3A, E3R, E3O, E4A, E4R, E5A, E5R, E6A, E6R, E7R, L1, L2, L3, B01, B02, B03, B04, B05, B06, B07, B08, B09, P01, P02, R01, R02, F01, F02, F03, F04, F05, F06, V03, V04, V06, C24, D01, D02, D03, D05, A01, A02, A03, K01, K02}
 use Rattle.mq_rules.specs.declared.note.Seen.{Seen}
 use Rattle.mq_rules.specs.Words.{is_some_and}
 use Rattle.mq_rules.specs.Moments.{Moment, position, note, moments, moment, is_same, some, count}
@@ -18,7 +18,7 @@ use Rattle.mq_rules.specs.Exchanges.{Exchange, first_unanswered, publish_puback,
 use Rattle.mq_rules.specs.Releases.{applies_L1, applies_L2, applies_L3}
 use Rattle.mq_rules.specs.Subscriptions.{applies_B01, applies_B02, applies_B03, applies_B04, applies_B05}
 use Rattle.mq_rules.specs.FurtherSubscriptions.{applies_B06, applies_B07}
-use Rattle.mq_rules.specs.MatchingSubscriptions.{applies_B08, applies_B09, applies_P02, applies_R01, applies_R02}
+use Rattle.mq_rules.specs.MatchingSubscriptions.{applies_B08, applies_B09, applies_P01, applies_P02, applies_R01, applies_R02}
 use Rattle.mq_rules.specs.Rules.{binds}
 use Rattle.mq_rules.specs.Statements.{Statement, on_past, in_session, at_release, at_rest, by_later, knowing, knowing_resumed, where_placed, is_so}
 use Rattle.mq_rules.specs.Steps.{shows}
@@ -106,6 +106,7 @@ occasion role B06 = Some (in_session (applies_B06 role))
 occasion role B07 = Some (in_session (applies_B07 role))
 occasion role B08 = Some (in_session (applies_B08 role))
 occasion role B09 = Some (in_session (applies_B09 role))
+occasion role P01 = Some (in_session (applies_P01 role))
 occasion role P02 = Some (in_session (applies_P02 role))
 occasion role R01 = Some (in_session (applies_R01 role))
 occasion role R02 = Some (in_session (applies_R02 role))

@@ -103,7 +103,7 @@ is_wrong_publish set connack p =
 
 -- a SUBSCRIBE with No Local for a shared subscription (MQTT 5.0, section 3.8.3.1), or with a Subscription Identifier where those are unavailable (section 3.2.2.3.12)
 abbrev pub is_wrong_subscribe : Option ConnackNote → WishesNote → Bool
-is_wrong_subscribe connack w = w.has_no_local_share || (w.has_subscription_identifier && lacks_identifiers connack)
+is_wrong_subscribe connack w = w.has_no_local_share || (is_some w.subscription_identifier && lacks_identifiers connack)
 
 -- the CONNACK is there, and accepts the connection
 abbrev pub accepts_connection : Option ConnackNote → Bool

@@ -1,5 +1,5 @@
 -- What a SUBSCRIBE asks for, as far as the further statements look at it: wildcards, a Subscription Identifier and shared subscriptions.
-use Rattle.std.specs.Prelude.{ℕ, ◌/◌, ◌%◌, ◌==◌, Bool, false, ◌&&◌, ◌||◌, not, cond, List, length, take, codes, unwrap_or}
+use Rattle.std.specs.Prelude.{ℕ, ◌/◌, ◌%◌, ◌==◌, Bool, false, ◌&&◌, ◌||◌, not, cond, List, length, take, codes, Option, None, unwrap_or}
 use Rattle.std.specs.Str.{bytes_eq}
 use Rattle.std.specs.List.{after_first, before_first, list_any}
 use Rattle.mq_topic.specs.Levels.{is_name}
@@ -42,13 +42,13 @@ is_shared_no_local f = is_share f.filter && is_no_local (unwrap_or f.options 0)
 -- ---- all filters of a SUBSCRIBE
 
 abbrev pub nothing_wished : WishesNote
-nothing_wished = record { has_wildcard = false; has_subscription_identifier = false; has_share = false; has_misnamed_share = false; has_no_local_share = false }
+nothing_wished = record { has_wildcard = false; subscription_identifier = None; has_share = false; has_misnamed_share = false; has_no_local_share = false }
 
--- with a Subscription Identifier or not, and with these filters
-abbrev pub wishes_of : Bool → List AskedFilter → WishesNote
-wishes_of identified filters = record {
+-- with this Subscription Identifier, or without one, and with these filters
+abbrev pub wishes_of : Option ℕ → List AskedFilter → WishesNote
+wishes_of identifier filters = record {
   has_wildcard = list_any (λ f. asks_by_wildcard f.filter) filters;
-  has_subscription_identifier = identified;
+  subscription_identifier = identifier;
   has_share = list_any (λ f. is_share f.filter) filters;
   has_misnamed_share = list_any (λ f. is_misnamed f.filter) filters;
   has_no_local_share = list_any is_shared_no_local filters;
@@ -58,7 +58,7 @@ wishes_of identified filters = record {
 abbrev pub wishes_with : WishesNote → AskedFilter → WishesNote
 wishes_with w f = record {
   has_wildcard = w.has_wildcard || asks_by_wildcard f.filter;
-  has_subscription_identifier = w.has_subscription_identifier;
+  subscription_identifier = w.subscription_identifier;
   has_share = w.has_share || is_share f.filter;
   has_misnamed_share = w.has_misnamed_share || is_misnamed f.filter;
   has_no_local_share = w.has_no_local_share || is_shared_no_local f;

@@ -243,39 +243,39 @@ leaving_by code = Disconnect (record { code = code; session_expiry = None })
 
 -- a PUBLISH of QoS 0, 1 and 2 on the topic `a`; with DUP or not
 abbrev pub at_most_once : PacketFields
-at_most_once = Publish (record { identifier = None; qos = quality.AtMostOnce; duplicate = false; retain = false; topic = 97 ∷ []; topic_alias = None; uses_alias = false; has_message_expiry = false; has_subscription_identifier = false })
+at_most_once = Publish (record { identifier = None; qos = quality.AtMostOnce; duplicate = false; retain = false; topic = 97 ∷ []; topic_alias = None; uses_alias = false; has_message_expiry = false; has_subscription_identifier = false; subscription_identifiers = [] })
 
 -- the same with RETAIN 1
 abbrev pub retained_at_most_once : PacketFields
-retained_at_most_once = Publish (record { identifier = None; qos = quality.AtMostOnce; duplicate = false; retain = true; topic = 97 ∷ []; topic_alias = None; uses_alias = false; has_message_expiry = false; has_subscription_identifier = false })
+retained_at_most_once = Publish (record { identifier = None; qos = quality.AtMostOnce; duplicate = false; retain = true; topic = 97 ∷ []; topic_alias = None; uses_alias = false; has_message_expiry = false; has_subscription_identifier = false; subscription_identifiers = [] })
 
 abbrev pub once : Bool → ℕ → PacketFields
-once dup i = Publish (record { identifier = Some i; qos = quality.AtLeastOnce; duplicate = dup; retain = false; topic = 97 ∷ []; topic_alias = None; uses_alias = false; has_message_expiry = false; has_subscription_identifier = false })
+once dup i = Publish (record { identifier = Some i; qos = quality.AtLeastOnce; duplicate = dup; retain = false; topic = 97 ∷ []; topic_alias = None; uses_alias = false; has_message_expiry = false; has_subscription_identifier = false; subscription_identifiers = [] })
 
 abbrev pub exactly : Bool → ℕ → PacketFields
-exactly dup i = Publish (record { identifier = Some i; qos = quality.ExactlyOnce; duplicate = dup; retain = false; topic = 97 ∷ []; topic_alias = None; uses_alias = false; has_message_expiry = false; has_subscription_identifier = false })
+exactly dup i = Publish (record { identifier = Some i; qos = quality.ExactlyOnce; duplicate = dup; retain = false; topic = 97 ∷ []; topic_alias = None; uses_alias = false; has_message_expiry = false; has_subscription_identifier = false; subscription_identifiers = [] })
 
 -- one of QoS 1 and one of QoS 2, with RETAIN 1
 abbrev pub retained_once : ℕ → PacketFields
-retained_once i = Publish (record { identifier = Some i; qos = quality.AtLeastOnce; duplicate = false; retain = true; topic = 97 ∷ []; topic_alias = None; uses_alias = false; has_message_expiry = false; has_subscription_identifier = false })
+retained_once i = Publish (record { identifier = Some i; qos = quality.AtLeastOnce; duplicate = false; retain = true; topic = 97 ∷ []; topic_alias = None; uses_alias = false; has_message_expiry = false; has_subscription_identifier = false; subscription_identifiers = [] })
 
 abbrev pub retained_exactly : ℕ → PacketFields
-retained_exactly i = Publish (record { identifier = Some i; qos = quality.ExactlyOnce; duplicate = false; retain = true; topic = 97 ∷ []; topic_alias = None; uses_alias = false; has_message_expiry = false; has_subscription_identifier = false })
+retained_exactly i = Publish (record { identifier = Some i; qos = quality.ExactlyOnce; duplicate = false; retain = true; topic = 97 ∷ []; topic_alias = None; uses_alias = false; has_message_expiry = false; has_subscription_identifier = false; subscription_identifiers = [] })
 
 -- that of QoS 1 with RETAIN 1, sent again
 abbrev pub retained_again : ℕ → PacketFields
-retained_again i = Publish (record { identifier = Some i; qos = quality.AtLeastOnce; duplicate = true; retain = true; topic = 97 ∷ []; topic_alias = None; uses_alias = false; has_message_expiry = false; has_subscription_identifier = false })
+retained_again i = Publish (record { identifier = Some i; qos = quality.AtLeastOnce; duplicate = true; retain = true; topic = 97 ∷ []; topic_alias = None; uses_alias = false; has_message_expiry = false; has_subscription_identifier = false; subscription_identifiers = [] })
 
 -- one of QoS 2 that may expire
 abbrev pub expiring : ℕ → PacketFields
-expiring i = Publish (record { identifier = Some i; qos = quality.ExactlyOnce; duplicate = false; retain = false; topic = 97 ∷ []; topic_alias = None; uses_alias = false; has_message_expiry = true; has_subscription_identifier = false })
+expiring i = Publish (record { identifier = Some i; qos = quality.ExactlyOnce; duplicate = false; retain = false; topic = 97 ∷ []; topic_alias = None; uses_alias = false; has_message_expiry = true; has_subscription_identifier = false; subscription_identifiers = [] })
 
 -- one of QoS 0 with a Topic Alias, on this topic; one with a Subscription Identifier
 abbrev pub aliased : List ℕ → ℕ → PacketFields
-aliased topic alias = Publish (record { identifier = None; qos = quality.AtMostOnce; duplicate = false; retain = false; topic = topic; topic_alias = Some alias; uses_alias = length topic == 0; has_message_expiry = false; has_subscription_identifier = false })
+aliased topic alias = Publish (record { identifier = None; qos = quality.AtMostOnce; duplicate = false; retain = false; topic = topic; topic_alias = Some alias; uses_alias = length topic == 0; has_message_expiry = false; has_subscription_identifier = false; subscription_identifiers = [] })
 
 abbrev pub subscribed : PacketFields
-subscribed = Publish (record { identifier = None; qos = quality.AtMostOnce; duplicate = false; retain = false; topic = 97 ∷ []; topic_alias = None; uses_alias = false; has_message_expiry = false; has_subscription_identifier = true })
+subscribed = Publish (record { identifier = None; qos = quality.AtMostOnce; duplicate = false; retain = false; topic = 97 ∷ []; topic_alias = None; uses_alias = false; has_message_expiry = false; has_subscription_identifier = true; subscription_identifiers = 1 ∷ [] })
 
 -- a SUBSCRIBE to `a`, and one to `b`, of a greatest QoS
 abbrev pub asks_a : ℕ → ℕ → PacketFields
@@ -314,17 +314,17 @@ abbrev pub asks_plainly : PacketFields
 asks_plainly = Subscribe 1 [] nothing_wished
 
 abbrev pub asks_widely : PacketFields
-asks_widely = Subscribe 1 [] (record { has_wildcard = true; has_subscription_identifier = false; has_share = false; has_misnamed_share = false; has_no_local_share = false })
+asks_widely = Subscribe 1 [] (record { has_wildcard = true; subscription_identifier = None; has_share = false; has_misnamed_share = false; has_no_local_share = false })
 
 abbrev pub asks_identified : PacketFields
-asks_identified = Subscribe 1 [] (record { has_wildcard = false; has_subscription_identifier = true; has_share = false; has_misnamed_share = false; has_no_local_share = false })
+asks_identified = Subscribe 1 [] (record { has_wildcard = false; subscription_identifier = Some 1; has_share = false; has_misnamed_share = false; has_no_local_share = false })
 
 -- one that asks for a shared subscription; whose name is a wildcard; with No Local 1
 abbrev pub asks_to_share : PacketFields
-asks_to_share = Subscribe 1 [] (record { has_wildcard = false; has_subscription_identifier = false; has_share = true; has_misnamed_share = false; has_no_local_share = false })
+asks_to_share = Subscribe 1 [] (record { has_wildcard = false; subscription_identifier = None; has_share = true; has_misnamed_share = false; has_no_local_share = false })
 
 abbrev pub asks_misnamed : PacketFields
-asks_misnamed = Subscribe 1 [] (record { has_wildcard = false; has_subscription_identifier = false; has_share = true; has_misnamed_share = true; has_no_local_share = false })
+asks_misnamed = Subscribe 1 [] (record { has_wildcard = false; subscription_identifier = None; has_share = true; has_misnamed_share = true; has_no_local_share = false })
 
 abbrev pub asks_no_local : PacketFields
-asks_no_local = Subscribe 1 [] (record { has_wildcard = false; has_subscription_identifier = false; has_share = true; has_misnamed_share = false; has_no_local_share = true })
+asks_no_local = Subscribe 1 [] (record { has_wildcard = false; subscription_identifier = None; has_share = true; has_misnamed_share = false; has_no_local_share = true })

@@ -12,6 +12,7 @@ ghost use Rattle.mq_rules.specs.declared.packet_note.PacketFields.TheVariants as
 ghost use Rattle.mq_rules.specs.Notes.{fields_type, publish_in, bare_fields, bare_note, bare_publish_note, note_of, kept_topic, is_sent_direction, note_of_bare};
 
 use crate::conversion::{has_noted, nonempty};
+use crate::identifier_list::IdentifierList;
 use crate::note::{ItemNote, Note};
 use crate::packet_note::{PacketFields, PacketNote, PublishNote};
 use crate::text::Text;
@@ -82,6 +83,7 @@ impl Note {
                 uses_alias: false,
                 has_message_expiry: false,
                 has_subscription_identifier: false,
+                subscription_identifiers: IdentifierList::none(),
             }),
         )
     }

@@ -2,9 +2,10 @@
 //! they were read from.
 //!
 //! Memory is taken only for a text that some statement looks at: the Topic Name of a PUBLISH that
-//! was sent, the Topic Filters of a SUBSCRIBE or an UNSUBSCRIBE that was received, the Reason Codes
-//! of a SUBACK or an UNSUBACK that was sent, and the Authentication Method of a CONNECT, or of an
-//! AUTH or a CONNACK that was sent.
+//! was sent, and its Subscription Identifiers if they are several, the Topic Filters of a SUBSCRIBE
+//! or an UNSUBSCRIBE that was received, the Reason Codes of a SUBACK or an UNSUBACK that was sent,
+//! if they are several, and the Authentication Method of a CONNECT, or of an AUTH or a CONNACK that
+//! was sent.
 ghost use Rattle.std.specs.Prelude.{◌≡◌, ◌&&◌, ◌<◌, ◌≤◌, [], true, false, None, is_some, length, slice_index, option_map, unwrap_or, IfOk, OnErr};
 ghost use Rattle.mq_props.specs.First.{first_two_bytes, first_four_bytes, first_varint, first_text, first_pair};
 ghost use Rattle.mq_packet.specs.declared.packet.RequestKind.TheVariants as requests;
@@ -15,9 +16,10 @@ ghost use Rattle.mq_log.specs.Events.{packet, packet as packet_item};
 ghost use Rattle.mq_log.specs.Flows.{item_event};
 ghost use Rattle.mq_log.specs.Reception.{item_of, event_of};
 ghost use Rattle.mq_rules.specs.declared.packet_note.PacketFields.TheVariants as fields;
-ghost use Rattle.mq_rules.specs.Notes.{only_list, is_sent_direction, begins_acknowledged, cuts_acknowledged, will_note, connect_note, connack_note, publish_note, disconnect_note, wishes_note, packet_fields, explaining_list, uses_alias, expires_if_received, packet_note, item_note, note_of, request_fields, answer_fields, noted_method, keeps_text, item_keeps_text, note_keeps_text};
+ghost use Rattle.mq_rules.specs.Notes.{only_list, is_sent_direction, begins_acknowledged, cuts_acknowledged, will_note, connect_note, connack_note, publish_note, subscription_identifiers_in, disconnect_note, wishes_note, packet_fields, explaining_list, uses_alias, expires_if_received, packet_note, item_note, note_of, request_fields, answer_fields, noted_method, keeps_text, item_keeps_text, note_keeps_text};
 
 use crate::faults::Memory;
+use crate::identifier_list::IdentifierList;
 use crate::keep_alive::is_large;
 use crate::lists::{CodeList, FilterList};
 use crate::method::Method;
@@ -117,13 +119,27 @@ fn expires_if_received(direction: Direction, list: Option<&Props<'_>>) -> bool
     }
 }
 
-// Whether there is a list, and it has a Subscription Identifier (MQTT 5.0, section 3.3.2.3.8).
+// Whether the list has a Subscription Identifier (MQTT 5.0, section 3.3.2.3.8).
+#[inline(always)]
+#[tactic(auto, using(crate::proofs::PropertyLaws::none_without))]
+fn has_identifier(list: &Props<'_>) -> bool
+    ensures exact { result ≡ is_some (first_varint 11 list.now.items) }
+    ensures none { result ≡ false → subscription_identifiers_in list.now.items ≡ [] }
+{
+    // Its bytes aren't looked at: a list that has some is an allowed one, so that what has the
+    // identifier of this property is a number.
+    let _bytes = list.as_bytes();
+    list.has_subscription_identifier()
+}
+
+// Whether there is a list, and it has a Subscription Identifier.
 #[inline(always)]
 fn has_subscription_identifier(list: Option<&Props<'_>>) -> bool
-    ensures { result ≡ is_some (first_varint 11 (unwrap_or (option_map (λ list. list.now.items) list.entry) [])) }
+    ensures exact { result ≡ is_some (first_varint 11 (unwrap_or (option_map (λ list. list.now.items) list.entry) [])) }
+    ensures none { result ≡ false → subscription_identifiers_in (unwrap_or (option_map (λ list. list.now.items) list.entry) []) ≡ [] }
 {
     match list {
-        Some(list) => list.has_subscription_identifier(),
+        Some(list) => has_identifier(list),
         None => false,
     }
 }
@@ -133,6 +149,7 @@ fn has_subscription_identifier(list: Option<&Props<'_>>) -> bool
 pub(crate) fn has_noted(direction: Direction, list: Option<&Props<'_>>) -> bool
     ensures unaliased { result ≡ false → first_two_bytes 35 (unwrap_or (option_map (λ list. list.now.items) list.entry) []) ≡ None }
     ensures unidentified { result ≡ false → is_some (first_varint 11 (unwrap_or (option_map (λ list. list.now.items) list.entry) [])) ≡ false }
+    ensures unnamed { result ≡ false → subscription_identifiers_in (unwrap_or (option_map (λ list. list.now.items) list.entry) []) ≡ [] }
     ensures lasting { result ≡ false → expires_if_received direction (unwrap_or (option_map (λ list. list.now.items) list.entry) []) ≡ false }
 {
     topic_alias(list).is_some()
@@ -215,6 +232,46 @@ impl DisconnectNote {
     }
 }
 
+// The Subscription Identifiers in the list. In most there are none, and then it isn't gone through.
+fn identifiers_in(alloc: Global, list: &Props<'_>) -> Result<IdentifierList, Memory>
+    ensures exact { IfOk result (λ identifiers. identifiers ≡ subscription_identifiers_in list.now.items) }
+    ensures needed { OnErr result (1 < length (subscription_identifiers_in list.now.items)) }
+{
+    if has_identifier(list) {
+        IdentifierList::of(alloc, list)
+    } else {
+        Ok(IdentifierList::none())
+    }
+}
+
+// The Subscription Identifiers in the list, if there is one.
+#[inline(always)]
+fn identifiers_of(alloc: Global, list: Option<&Props<'_>>) -> Result<IdentifierList, Memory>
+    ensures exact { IfOk result (λ identifiers. identifiers ≡ subscription_identifiers_in (unwrap_or (option_map (λ list. list.now.items) list.entry) [])) }
+    ensures needed { OnErr result (1 < length (subscription_identifiers_in (unwrap_or (option_map (λ list. list.now.items) list.entry) []))) }
+{
+    match list {
+        Some(list) => identifiers_in(alloc, list),
+        None => Ok(IdentifierList::none()),
+    }
+}
+
+// The Subscription Identifiers in the list, if there is one, and its PUBLISH was sent; else none.
+#[inline(always)]
+fn kept_identifiers(
+    alloc: Global,
+    direction: Direction,
+    list: Option<&Props<'_>>,
+) -> Result<IdentifierList, Memory>
+    ensures exact { IfOk result (λ identifiers. identifiers ≡ only_list (is_sent_direction direction) (subscription_identifiers_in (unwrap_or (option_map (λ list. list.now.items) list.entry) []))) }
+    ensures needed { OnErr result (1 < length (only_list (is_sent_direction direction) (subscription_identifiers_in (unwrap_or (option_map (λ list. list.now.items) list.entry) [])))) }
+{
+    match direction {
+        Direction::Sent => identifiers_of(alloc, list),
+        Direction::Recv => Ok(IdentifierList::none()),
+    }
+}
+
 // The Topic Name, if its PUBLISH was sent; else it is empty.
 #[inline(always)]
 fn kept_topic(alloc: Global, direction: Direction, topic: &str) -> Result<Text, Memory>
@@ -232,7 +289,8 @@ impl PublishNote {
     ///
     /// # Errors
     ///
-    /// `Memory` if there is no memory for its Topic Name, which is kept of a PUBLISH that was sent.
+    /// `Memory` if there is no memory for its Topic Name, or for its Subscription Identifiers if they
+    /// are several. They are kept of a PUBLISH that was sent.
     #[inline(always)]
     pub fn of(
         alloc: Global,
@@ -240,16 +298,24 @@ impl PublishNote {
         publish: &Publish<'_>,
     ) -> Result<PublishNote, Memory>
         ensures exact { IfOk result (λ note. note ≡ publish_note direction (publish_view publish.now)) }
-        ensures needed { OnErr result (0 < length (publish_note direction (publish_view publish.now)).topic) }
+        ensures needed { OnErr result (keeps_text (fields.Publish (publish_note direction (publish_view publish.now))) ≡ true) }
     {
         let topic = kept_topic(alloc, direction, publish.topic)?;
-        Ok(PublishNote::with_topic(direction, topic, publish))
+        let properties = nonempty(&publish.properties);
+        let identifiers = kept_identifiers(alloc, direction, properties)?;
+        Ok(PublishNote::with_copies(direction, topic, identifiers, publish))
     }
 
-    // What the statements look at in this PUBLISH, with this copy of its Topic Name.
+    // What the statements look at in this PUBLISH, with these copies of its Topic Name and of its
+    // Subscription Identifiers.
     #[inline(always)]
-    fn with_topic(direction: Direction, topic: Text, publish: &Publish<'_>) -> PublishNote
-        ensures { topic ≡ only_list (is_sent_direction direction) publish.now.topic.now → result ≡ publish_note direction (publish_view publish.now) }
+    fn with_copies(
+        direction: Direction,
+        topic: Text,
+        subscription_identifiers: IdentifierList,
+        publish: &Publish<'_>,
+    ) -> PublishNote
+        ensures { topic ≡ only_list (is_sent_direction direction) publish.now.topic.now → subscription_identifiers ≡ only_list (is_sent_direction direction) (subscription_identifiers_in publish.now.properties.items) → result ≡ publish_note direction (publish_view publish.now) }
     {
         let properties = nonempty(&publish.properties);
         PublishNote {
@@ -262,6 +328,7 @@ impl PublishNote {
             uses_alias: uses_alias(publish.topic, properties),
             has_message_expiry: expires_if_received(direction, properties),
             has_subscription_identifier: has_subscription_identifier(properties),
+            subscription_identifiers,
         }
     }
 }
@@ -326,8 +393,8 @@ fn auth_fields(
 fn wishes_in(request: &Request<'_>) -> WishesNote
     ensures { result ≡ wishes_note request.now.properties.items request.now.filters }
 {
-    let identified = request.properties.has_subscription_identifier();
-    WishesNote::of(identified, &request.filters)
+    let identifier = request.properties.get_subscription_identifier();
+    WishesNote::of(identifier, &request.filters)
 }
 
 // What the statements look at in this SUBSCRIBE, which went this way.
@@ -596,10 +663,11 @@ impl Note {
     ///
     /// # Errors
     ///
-    /// `Memory` if there is no memory for a text that is kept: the Topic Name of a PUBLISH that was
-    /// sent, the Topic Filters of a SUBSCRIBE or an UNSUBSCRIBE that was received, the Reason Codes
-    /// of a SUBACK or an UNSUBACK that was sent, or the Authentication Method of a CONNECT, or of an
-    /// AUTH or a CONNACK that was sent. Any other event takes no memory.
+    /// `Memory` if there is no memory for what is kept: the Topic Name of a PUBLISH that was sent, or
+    /// its Subscription Identifiers if they are several, the Topic Filters of a SUBSCRIBE or an
+    /// UNSUBSCRIBE that was received, the Reason Codes of a SUBACK or an UNSUBACK that was sent, if
+    /// they are several, or the Authentication Method of a CONNECT, or of an AUTH or a CONNACK that
+    /// was sent. Any other event takes no memory.
     #[inline(always)]
     pub fn of(alloc: Global, event: &Event<'_>) -> Result<Note, Memory>
         ensures exact { IfOk result (λ note. note ≡ note_of (event_of event.now)) }

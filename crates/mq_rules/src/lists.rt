@@ -164,7 +164,7 @@ impl CodeList {
     // Copies of these Reason Codes.
     fn of_bytes(alloc: Global, codes: &[u8]) -> Result<CodeList, Memory>
         ensures exact { IfOk result (λ copies. copies ≡ codes.now) }
-        ensures needed { OnErr result (0 < length codes.now) }
+        ensures needed { OnErr result (1 < length codes.now) }
     {
         let form = match codes {
             [code] => CodeForm::One(*code),
@@ -177,10 +177,10 @@ impl CodeList {
     ///
     /// # Errors
     ///
-    /// `Memory` if there is no memory for them. An empty list needs none.
+    /// `Memory` if there is no memory for them. At most one needs none.
     pub fn of(alloc: Global, codes: &Codes<'_>) -> Result<CodeList, Memory>
         ensures exact { IfOk result (λ copies. copies ≡ codes.now) }
-        ensures needed { OnErr result (0 < length codes.now) }
+        ensures needed { OnErr result (1 < length codes.now) }
     {
         CodeList::of_bytes(alloc, codes.as_bytes())
     }
@@ -189,10 +189,10 @@ impl CodeList {
     ///
     /// # Errors
     ///
-    /// `Memory` if there is no memory for it. An empty list needs none.
+    /// `Memory` if there is no memory for it. At most one Reason Code needs none.
     pub fn copy(&self, alloc: Global) -> Result<CodeList, Memory>
         ensures exact { IfOk result (λ copy. copy ≡ self.now) }
-        ensures needed { OnErr result (0 < length self.now) }
+        ensures needed { OnErr result (1 < length self.now) }
     {
         CodeList::of_bytes(alloc, self.as_slice())
     }

@@ -129,6 +129,8 @@ impl Rule {
             Rule::B07 => "No UNSUBACK says that a filter was deleted which was never subscribed.",
             Rule::B08 => "A PUBLISH from the server matches a subscription, where some are shared.",
             Rule::B09 => "A PUBLISH isn't at a QoS above what was granted, where some are shared.",
+            Rule::P01 =>
+                "A Subscription Identifier of a PUBLISH is that of a matching subscription.",
             Rule::P02 =>
                 "A PUBLISH has a Subscription Identifier, if each matching subscription has.",
             Rule::R01 => "RETAIN is 0 where no matching subscription asks for anything else.",

@@ -1,5 +1,5 @@
 //! Copies of notes, for whoever keeps an event.
-ghost use Rattle.std.specs.Prelude.{◌≡◌, ◌<◌, length, IfOk, OnErr};
+ghost use Rattle.std.specs.Prelude.{◌≡◌, ◌<◌, ◌⊎◌, length, IfOk, OnErr};
 ghost use Rattle.mq_rules.specs.Copies.{fields_own, item_owns, note_owns};
 
 use crate::faults::Memory;
@@ -10,9 +10,10 @@ use std::alloc::Global;
 // A copy of what is noted of a PUBLISH.
 fn copy_publish(alloc: Global, publish: &PublishNote) -> Result<PublishNote, Memory>
     ensures exact { IfOk result (λ copy. copy ≡ publish.now) }
-    ensures needed { OnErr result (30 < length publish.now.topic) }
+    ensures needed { OnErr result ((30 < length publish.now.topic) ⊎ (1 < length publish.now.subscription_identifiers)) }
 {
     let topic = publish.topic.copy(alloc)?;
+    let subscription_identifiers = publish.subscription_identifiers.copy(alloc)?;
     Ok(PublishNote {
         identifier: publish.identifier,
         qos: publish.qos,
@@ -23,6 +24,7 @@ fn copy_publish(alloc: Global, publish: &PublishNote) -> Result<PublishNote, Mem
         uses_alias: publish.uses_alias,
         has_message_expiry: publish.has_message_expiry,
         has_subscription_identifier: publish.has_subscription_identifier,
+        subscription_identifiers,
     })
 }
 
@@ -113,8 +115,9 @@ impl Note {
     ///
     /// # Errors
     ///
-    /// `Memory` if there is no memory for them. A note that has no filters, Reason Codes or
-    /// Authentication Method, and no Topic Name of more than 30 bytes, needs none.
+    /// `Memory` if there is no memory for them. A note needs none that has no filters and no
+    /// Authentication Method, at most one Reason Code and one Subscription Identifier, and no Topic
+    /// Name of more than 30 bytes.
     pub fn copy(&self, alloc: Global) -> Result<Note, Memory>
         ensures exact { IfOk result (λ copy. copy ≡ self.now) }
         ensures needed { OnErr result (note_owns self.now) }

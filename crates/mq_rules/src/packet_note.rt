@@ -5,6 +5,7 @@ ghost use Rattle.mq_rules.specs.Words.{only};
 ghost use Rattle.mq_rules.specs.Notes.{fate_by, resumed_by, refuses as is_refusing, is_acknowledged, delivery_in, opener_in, resend_in, is_at_least_once, is_exactly_once, fields_type, connect_in, connect_method_in, method_in, is_auth as authenticates, connack_in, publish_in, disconnect_in, wishes_in, receipt_code_in, puback_in, pubrec_in, accepting_pubrec_in, pubrel_in, pubcomp_in, subscribe_in, suback_in, unsubscribe_in, unsuback_in, settled_in, ended_in, unmatched_pubrec_in, success_pubcomp_in, is_pingreq as pings, is_pingresp as answers_ping, is_session_packet as needs_a_session, may_explain as explains};
 
 use crate::fate::Fate;
+use crate::identifier_list::IdentifierList;
 use crate::lists::{CodeList, FilterList};
 use crate::method::Method;
 use crate::text::Text;
@@ -112,6 +113,9 @@ pub struct PublishNote {
     pub has_message_expiry: bool,
     /// Whether it has a Subscription Identifier.
     pub has_subscription_identifier: bool,
+    /// The Subscription Identifiers of a PUBLISH that the tested end sent, in order. There are none
+    /// for a PUBLISH that the tested end received, since no statement looks at them.
+    pub subscription_identifiers: IdentifierList,
 }
 
 /// What the statements look at in a DISCONNECT (MQTT 5.0, section 3.14).
@@ -128,8 +132,8 @@ pub struct DisconnectNote {
 pub struct WishesNote {
     /// Whether a filter has a wildcard; one of a shared subscription, after its name.
     pub has_wildcard: bool,
-    /// Whether it has a Subscription Identifier.
-    pub has_subscription_identifier: bool,
+    /// The Subscription Identifier, if it has one, 1 to 268,435,455.
+    pub subscription_identifier: Option<u32>,
     /// Whether a filter asks for a shared subscription: it begins with `$share/`.
     pub has_share: bool,
     /// Whether the name of a shared subscription is empty or has a wildcard, or no filter follows.

@@ -186,6 +186,9 @@ pub enum Rule {
     /// A PUBLISH isn't at a QoS above what was granted, where some are shared (MQTT 5.0, sections
     /// 3.8.4 and 4.8.2).
     B09,
+    /// A Subscription Identifier of a PUBLISH is that of a matching subscription (MQTT 5.0, section
+    /// 3.3.4).
+    P01,
     /// A PUBLISH has a Subscription Identifier, if each matching subscription has (MQTT 5.0,
     /// section 3.3.4).
     P02,

@@ -39,7 +39,7 @@ pub enum Judged {
 pub type Row = (Rule, &'static str, Ends, &'static str, &'static str, Judged);
 
 /// Each statement's row, in the order of reports.
-pub const TABLE: [Row; 101] = [
+pub const TABLE: [Row; 102] = [
     (W01, "W01", Both, "MQTT-2.1.3-1", "MQTT-2.1.3-1", Always),
     (W02, "W02", Both, "sec-2.1.2", "sec-2.1.2", Always),
     (W03, "W03", Both, "MQTT-1.5.5-1", "MQTT-1.5.5-1", Always),
@@ -154,6 +154,7 @@ pub const TABLE: [Row; 101] = [
         "MQTT-3.8.4-8,MQTT-4.8.2-3",
         OnRequest,
     ),
+    (P01, "P01", OnlyServer, "", "sec-3.3.4", OnRequest),
     (P02, "P02", OnlyServer, "", "MQTT-3.3.4-3", OnRequest),
     (
         R01,
@@ -228,7 +229,7 @@ pub const TABLE: [Row; 101] = [
 ];
 
 /// The statements, in the order of reports.
-const RULES: [Rule; 101] = [
+const RULES: [Rule; 102] = [
     Rule::W01,
     Rule::W02,
     Rule::W03,
@@ -308,6 +309,7 @@ const RULES: [Rule; 101] = [
     Rule::B07,
     Rule::B08,
     Rule::B09,
+    Rule::P01,
     Rule::P02,
     Rule::R01,
     Rule::R02,

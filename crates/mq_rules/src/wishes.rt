@@ -9,8 +9,9 @@ use crate::packet_note::WishesNote;
 use mq_packet::{Filter, Filters};
 use mq_topic::check_name;
 
-// Whether a filter asks for a shared subscription (MQTT 5.0, section 4.8.2).
-fn is_share(filter: &str) -> bool
+/// Whether a Topic Filter asks for a shared subscription: it begins with `$share/` (MQTT 5.0,
+/// section 4.8.2).
+pub fn is_share(filter: &str) -> bool
     ensures { result ≡ asked.is_share filter.now }
 {
     filter.starts_with("$share/")
@@ -36,12 +37,20 @@ fn later_levels(text: &str) -> &str
     }
 }
 
+/// The Topic Filter of a shared subscription, which follows its ShareName: what stands after the
+/// second `/`, or nothing if there is none (MQTT 5.0, section 4.8.2).
+pub fn shared_filter(filter: &str) -> &str
+    ensures { result.now ≡ asked.shared_filter filter.now }
+{
+    later_levels(later_levels(filter))
+}
+
 // Whether a filter has a wildcard; one of a shared subscription, after its name.
 fn asks_by_wildcard(filter: &str) -> bool
     ensures { result ≡ asked.asks_by_wildcard filter.now }
 {
     if is_share(filter) {
-        !check_name(later_levels(later_levels(filter)))
+        !check_name(shared_filter(filter))
     } else {
         !check_name(filter)
     }
@@ -74,20 +83,20 @@ impl WishesNote {
     {
         WishesNote {
             has_wildcard: false,
-            has_subscription_identifier: false,
+            subscription_identifier: None,
             has_share: false,
             has_misnamed_share: false,
             has_no_local_share: false,
         }
     }
 
-    /// What a SUBSCRIBE with these filters asks for, which has a Subscription Identifier or not.
+    /// What a SUBSCRIBE with these filters asks for, which has this Subscription Identifier, or none.
     #[tactic(auto, using(crate::proofs::WishesLaws::wishes_none))]
-    pub fn of(identified: bool, filters: &Filters<'_>) -> WishesNote
-        ensures { result ≡ wishes_of identified filters.now }
+    pub fn of(identifier: Option<u32>, filters: &Filters<'_>) -> WishesNote
+        ensures { result ≡ wishes_of identifier filters.now }
     {
         let mut wishes = WishesNote::nothing();
-        wishes.has_subscription_identifier = identified;
+        wishes.subscription_identifier = identifier;
         for filter in filters.iter() {
             wishes = wishes.with_filter(filter);
         }
@@ -107,7 +116,7 @@ impl WishesNote {
         }
         WishesNote {
             has_wildcard: self.has_wildcard || asks_by_wildcard(filter.filter),
-            has_subscription_identifier: self.has_subscription_identifier,
+            subscription_identifier: self.subscription_identifier,
             has_share: self.has_share || is_share(filter.filter),
             has_misnamed_share: self.has_misnamed_share || is_misnamed(filter.filter),
             has_no_local_share: self.has_no_local_share || is_shared_no_local(filter),

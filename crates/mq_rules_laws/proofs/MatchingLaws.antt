@@ -1,7 +1,7 @@
--- Wherever a statement on the subscriptions that match what is delivered is false, it is put to the test (B08, B09, P02, R01 and R02).
-use Rattle.std.proofs.Common.{◌≡◌, ℕ, nat_le, arith, Bool, true, false, ◌&&◌, ◌||◌, not, List, [], ◌∷◌, refl}
+-- Wherever a statement on the subscriptions that match what is delivered is false, it is put to the test (B08, B09, P01, P02, R01 and R02).
+use Rattle.std.proofs.Common.{◌≡◌, ℕ, ◌<◌, nat_le, nat_lt, arith, Bool, true, false, ◌&&◌, ◌||◌, not, List, [], ◌∷◌, length, refl}
 use Rattle.std.specs.List.{list_any}
-use Rattle.std.proofs.lemmas.Bool.{le-leb}
+use Rattle.std.proofs.lemmas.Bool.{le-leb, lt-ltb}
 use Rattle.mq_packet.specs.declared.packet.Qos.{Qos}
 use Rattle.mq_packet.specs.declared.packet.Qos.TheVariants as quality
 use Rattle.mq_rules.specs.declared.role.Role.{Role}
@@ -13,7 +13,7 @@ use Rattle.mq_rules.specs.Moments.{Moment, note}
 use Rattle.mq_rules.specs.Identifiers.{session_before}
 use Rattle.mq_rules.specs.Subscriptions.{topic_of}
 use Rattle.mq_rules.specs.FurtherSubscriptions.{is_clear_before}
-use Rattle.mq_rules.specs.MatchingSubscriptions.{Subscribed, subscribed_from, is_about, some_matching, is_matched_so, is_sharing, any_subscription, takes_identifiers, are_identified, are_unretained, are_shared, breaks_B08, breaks_B09, breaks_P02, breaks_R01, breaks_R02, applies_B08, applies_B09, applies_P02, applies_R01, applies_R02}
+use Rattle.mq_rules.specs.MatchingSubscriptions.{Subscribed, subscribed_from, is_about, some_matching, is_matched_so, is_sharing, any_subscription, is_named, takes_identifiers, are_identified, are_unretained, are_shared, breaks_B08, breaks_B09, breaks_P01, breaks_P02, breaks_R01, breaks_R02, applies_B08, applies_B09, applies_P01, applies_P02, applies_R01, applies_R02}
 use Rattle.mq_rules.proofs.Exports.{and_true, both_true, or_left, or_right}
 use Rattle.mq_rules_laws.proofs.WiderLaws.{first_true, wider-some, wider-there}
 
@@ -77,6 +77,24 @@ B09-applies role f k h = wider-matched role f k (λ p matching. is_sharing role 
     acknowledged p topic t =
         let q = both_true (is_sharing role f k) (too_high p.qos (some_matching role f k topic)) t in
         and_true (is_sharing role f k) (is_acknowledged p.qos) q.0 (above p.qos topic q.1)
+
+pub P01-applies : (role : Role) (f : Fate) (k : Moment) → breaks_P01 role f k ≡ true → applies_P01 role f k ≡ true
+unfolding breaks_P01 applies_P01
+P01-applies role f k h = wider-matched role f k (λ p matching. matching any_subscription && has_foreign matching p.subscription_identifiers) (λ p matching. nat_lt 0 (length p.subscription_identifiers) && matching any_subscription) named h
+  where
+    has_foreign : ((Subscribed → Bool) → Bool) → List ℕ → Bool
+    has_foreign matching ids = list_any (λ i. not (matching (is_named i))) ids
+
+    some-of : (test : ℕ → Bool) (ids : List ℕ) → list_any test ids ≡ true → nat_lt 0 (length ids) ≡ true
+    some-of test [] t = absurd (cc)
+    some-of test (i ∷ ids) t =
+        let one : 0 < length (i ∷ ids) = omega arith in
+        lt-ltb 0 (length (i ∷ ids)) one
+
+    named : (p : PublishNote) (topic : List ℕ) → (some_matching role f k topic any_subscription && has_foreign (some_matching role f k topic) p.subscription_identifiers) ≡ true → (nat_lt 0 (length p.subscription_identifiers) && some_matching role f k topic any_subscription) ≡ true
+    named p topic t =
+        let q = both_true (some_matching role f k topic any_subscription) (has_foreign (some_matching role f k topic) p.subscription_identifiers) t in
+        and_true (nat_lt 0 (length p.subscription_identifiers)) (some_matching role f k topic any_subscription) (some-of (λ i. not (some_matching role f k topic (is_named i))) p.subscription_identifiers q.1) q.0
 
 pub P02-applies : (role : Role) (f : Fate) (k : Moment) → breaks_P02 role f k ≡ true → applies_P02 role f k ≡ true
 unfolding breaks_P02 applies_P02

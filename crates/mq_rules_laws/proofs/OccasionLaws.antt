@@ -15,7 +15,7 @@ use Rattle.mq_rules.specs.declared.role.Role.TheVariants.{Client, Server}
 use Rattle.mq_rules.specs.declared.role.Tested.{Tested}
 use Rattle.mq_rules.specs.declared.fate.Fate.{Fate}
 use Rattle.mq_rules.specs.declared.rule.Rule.{Rule}
-use Rattle.mq_rules.specs.declared.rule.Rule.TheVariants.{W01, W02, W03, W04, W05, W06, W07, W08, W09, W10, W11, W12, W13, W14, W15, W16, W17, W18, W19, W20, W21, C01, C02, C03, C04, C05, C06, C07, C08, C09, C10, C11, C12, C13, C14, C15, C16, C17, C18, C19, C20, C21, C22, C23, S01, S02, S03, S04, S05, S06, S07, E1A, E1R, E1O, E2A, E2R, E2O, E3A, E3R, E3O, E4A, E4R, E5A, E5R, E6A, E6R, E7R, L1, L2, L3, B01, B02, B03, B04, B05, B06, B07, B08, B09, P02, R01, R02, F01, F02, F03, F04, F05, F06, V03, V04, V06, C24, D01, D02, D03, D05, A01, A02, A03, K01, K02}
+use Rattle.mq_rules.specs.declared.rule.Rule.TheVariants.{W01, W02, W03, W04, W05, W06, W07, W08, W09, W10, W11, W12, W13, W14, W15, W16, W17, W18, W19, W20, W21, C01, C02, C03, C04, C05, C06, C07, C08, C09, C10, C11, C12, C13, C14, C15, C16, C17, C18, C19, C20, C21, C22, C23, S01, S02, S03, S04, S05, S06, S07, E1A, E1R, E1O, E2A, E2R, E2O, E3A, E3R, E3O, E4A, E4R, E5A, E5R, E6A, E6R, E7R, L1, L2, L3, B01, B02, B03, B04, B05, B06, B07, B08, B09, P01, P02, R01, R02, F01, F02, F03, F04, F05, F06, V03, V04, V06, C24, D01, D02, D03, D05, A01, A02, A03, K01, K02}
 use Rattle.mq_rules.specs.declared.note.Note.{Note}
 use Rattle.mq_rules.specs.declared.note.ItemNote.{ItemNote}
 use Rattle.mq_rules.specs.declared.note.Seen.{Seen}
@@ -38,14 +38,14 @@ use Rattle.mq_rules.specs.Exchanges.{Exchange, publish_puback, publish_pubrec, p
 use Rattle.mq_rules.specs.Releases.{brings, releases_message, ends, first_brought, may_lapse, breaks_L1, breaks_L2, breaks_L3, applies_L1, applies_L2, applies_L3}
 use Rattle.mq_rules.specs.Subscriptions.{breaks_B01, breaks_B02, breaks_B03, breaks_B04, breaks_B05, applies_B01, applies_B02, applies_B03, applies_B04, applies_B05}
 use Rattle.mq_rules.specs.FurtherSubscriptions.{breaks_B06, breaks_B07, applies_B06, applies_B07}
-use Rattle.mq_rules.specs.MatchingSubscriptions.{breaks_B08, breaks_B09, breaks_P02, breaks_R01, breaks_R02, applies_B08, applies_B09, applies_P02, applies_R01, applies_R02}
+use Rattle.mq_rules.specs.MatchingSubscriptions.{breaks_B08, breaks_B09, breaks_P01, breaks_P02, breaks_R01, breaks_R02, applies_B08, applies_B09, applies_P01, applies_P02, applies_R01, applies_R02}
 use Rattle.mq_rules.specs.Rules.{binds}
 use Rattle.mq_rules.specs.Statements.{statement, is_by_bytes, is_on_bytes, is_so, fails}
 use Rattle.mq_rules.specs.Occasions.{occasion, occurs, applies}
 use Rattle.mq_rules.proofs.Exports.{among-some, and_false, and_true, both_true, or_left, or_right, session-members, some-among, those-among}
 use Rattle.mq_rules_laws.proofs.WiderLaws.{is_there, wider-there, passing-id, first_true, wider-some, since-some, since-fewer, count-some, wider-stretch, wider-past, wider-session, wider-knowing, wider-knowing_resumed, wider-placed, wider-rest, wider-later}
 use Rattle.mq_rules_laws.proofs.SubscriptionLaws.{B01-applies, B02-applies, B03-applies, B04-applies, B05-applies, B06-applies, B07-applies}
-use Rattle.mq_rules_laws.proofs.MatchingLaws.{B08-applies, B09-applies, P02-applies, R01-applies, R02-applies}
+use Rattle.mq_rules_laws.proofs.MatchingLaws.{B08-applies, B09-applies, P01-applies, P02-applies, R01-applies, R02-applies}
 
 -- ---- the past of a connection
 
@@ -241,7 +241,7 @@ F02-applies k h = there-after-connack (λ w. w.has_wildcard) (sent_wishes (note 
 
 pub F03-applies : (k : Moment) → breaks_F03 k ≡ true → applies_F03 k ≡ true
 unfolding breaks_F03 applies_F03
-F03-applies k h = there-after-connack (λ w. w.has_subscription_identifier) (sent_wishes (note k)) (lacks_identifiers (connack_before Client k)) h
+F03-applies k h = there-after-connack (λ w. is_some w.subscription_identifier) (sent_wishes (note k)) (lacks_identifiers (connack_before Client k)) h
 
 pub F04-applies : (k : Moment) → breaks_F04 k ≡ true → applies_F04 k ≡ true
 unfolding breaks_F04 applies_F04
@@ -687,6 +687,7 @@ line-applies role B06 fates log k h by_bytes = wider-session role fates (breaks_
 line-applies role B07 fates log k h by_bytes = wider-session role fates (breaks_B07 role) (applies_B07 role) (B07-applies role) log k h
 line-applies role B08 fates log k h by_bytes = wider-session role fates (breaks_B08 role) (applies_B08 role) (B08-applies role) log k h
 line-applies role B09 fates log k h by_bytes = wider-session role fates (breaks_B09 role) (applies_B09 role) (B09-applies role) log k h
+line-applies role P01 fates log k h by_bytes = wider-session role fates (breaks_P01 role) (applies_P01 role) (P01-applies role) log k h
 line-applies role P02 fates log k h by_bytes = wider-session role fates (breaks_P02 role) (applies_P02 role) (P02-applies role) log k h
 line-applies role R01 fates log k h by_bytes = wider-session role fates (breaks_R01 role) (applies_R01 role) (R01-applies role) log k h
 line-applies role R02 fates log k h by_bytes = wider-session role fates (breaks_R02 role) (applies_R02 role) (R02-applies role) log k h

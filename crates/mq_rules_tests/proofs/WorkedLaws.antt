@@ -29,7 +29,7 @@ abbrev pub connack : Bool → PacketFields
 connack present = fields.Connack (record { session_present = present; code = 0; session_expiry = None; receive_maximum = None; topic_alias_maximum = None; maximum_qos = None; retain_available = None; wildcard_subscription_available = None; subscription_identifier_available = None; shared_subscription_available = None; maximum_packet_size = None; server_keep_alive = None; has_assigned_identifier = false; has_response_information = false; has_authentication_method = false }) None
 
 abbrev pub publish : Bool → ℕ → PacketFields
-publish dup i = fields.Publish (record { identifier = Some i; qos = quality.AtLeastOnce; duplicate = dup; retain = false; topic = 97 ∷ []; topic_alias = None; uses_alias = false; has_message_expiry = false; has_subscription_identifier = false })
+publish dup i = fields.Publish (record { identifier = Some i; qos = quality.AtLeastOnce; duplicate = dup; retain = false; topic = 97 ∷ []; topic_alias = None; uses_alias = false; has_message_expiry = false; has_subscription_identifier = false; subscription_identifiers = [] })
 
 -- the notes of a log, the newest first, at their places
 abbrev pub placed : ℕ → List Note → List Seen

@@ -1,12 +1,12 @@
 //! Short logs of what a server delivers, whose places are computed from the definitions alone: where
-//! B08, B09, P02, R01 and R02 are put to the test, and the nearest logs in which they aren't.
+//! B08, B09, P01, P02, R01 and R02 are put to the test, and the nearest logs in which they aren't.
 ghost use Rattle.std.specs.Prelude.{◌≡◌, ◌∷◌, [], true, false, Some, None, codes};
 ghost use Rattle.mq_packet.specs.declared.rule.PacketRule.TheVariants as packets;
-ghost use Rattle.mq_rules.specs.declared.rule.Rule.TheVariants.{B01, B02, B08, B09, P02, R01, R02};
+ghost use Rattle.mq_rules.specs.declared.rule.Rule.TheVariants.{B01, B02, B08, B09, P01, P02, R01, R02};
 ghost use Rattle.mq_rules.specs.declared.note.Note.TheVariants.{Open};
 ghost use Rattle.mq_rules.specs.declared.packet_note.PacketFields.TheVariants.{Suback, Unsuback};
 ghost use Rattle.mq_rules.specs.Worked.{client_asked, server, server_asked, applying, Close, sends, gets, gets_bad, gets_lost, lasting, again, asking, accepting, resuming, refusing, lacking, at_most_once, once, exactly, retained_at_most_once, aliased, subscribed};
-ghost use Rattle.mq_rules_tests.specs.Deliveries.{asks, asks_with_identifier, removes, delivers, resuming_without_identifiers};
+ghost use Rattle.mq_rules_tests.specs.Deliveries.{asks, asks_with_identifier, asks_named, removes, delivers, delivers_for, delivers_once_for, aliased_for, resuming_without_identifiers};
 
 /// Deliveries in a session with shared subscriptions (B08 and B09; beside them B01 and B02).
 pub fn places_of_shared_subscriptions()
@@ -45,6 +45,30 @@ pub fn places_of_shared_subscriptions()
     ensures resumed_qos { applying server_asked B09 (Open ∷ gets lasting ∷ sends accepting ∷ gets (asks 1 "$share/g/a" 1) ∷ sends (Suback 1 (1 ∷ [])) ∷ Close ∷ Open ∷ gets again ∷ sends resuming ∷ sends (once false 1) ∷ []) ≡ 10 ∷ [] }
     ensures bad_subscribe_qos { applying server_asked B09 (Open ∷ gets lasting ∷ sends accepting ∷ gets (asks 1 "$share/g/a" 1) ∷ sends (Suback 1 (1 ∷ [])) ∷ gets_bad 130 packets.W15 ∷ sends (once false 1) ∷ []) ≡ [] }
     ensures unasked_qos { applying server B09 (Open ∷ gets lasting ∷ sends accepting ∷ gets (asks 1 "$share/g/a" 1) ∷ sends (Suback 1 (1 ∷ [])) ∷ sends (once false 1) ∷ []) ≡ [] }
+{}
+
+/// Deliveries with Subscription Identifiers, for which some subscription matches (P01).
+pub fn places_of_identifiers()
+    ensures own_and_foreign { applying server_asked P01 (Open ∷ gets lasting ∷ sends accepting ∷ gets (asks_named 7 1 "a" 0) ∷ sends (Suback 1 (0 ∷ [])) ∷ sends (delivers_for "a" (7 ∷ [])) ∷ sends (delivers_for "a" (8 ∷ [])) ∷ []) ≡ 7 ∷ 6 ∷ [] }
+    ensures with_and_without { applying server_asked P01 (Open ∷ gets lasting ∷ sends accepting ∷ gets (asks_named 7 1 "a" 0) ∷ sends (Suback 1 (0 ∷ [])) ∷ sends at_most_once ∷ sends (delivers_for "a" (7 ∷ [])) ∷ []) ≡ 7 ∷ [] }
+    ensures several { applying server_asked P01 (Open ∷ gets lasting ∷ sends accepting ∷ gets (asks_named 7 1 "a" 0) ∷ sends (Suback 1 (0 ∷ [])) ∷ sends (delivers_for "a" (7 ∷ 8 ∷ [])) ∷ []) ≡ 6 ∷ [] }
+    ensures not_given { applying server_asked P01 (Open ∷ gets lasting ∷ sends accepting ∷ gets (asks 1 "a" 0) ∷ sends (Suback 1 (0 ∷ [])) ∷ sends (delivers_for "a" (7 ∷ [])) ∷ []) ≡ 6 ∷ [] }
+    ensures none_matches { applying server_asked P01 (Open ∷ gets lasting ∷ sends accepting ∷ gets (asks_named 7 1 "b" 0) ∷ sends (Suback 1 (0 ∷ [])) ∷ sends (delivers_for "a" (7 ∷ [])) ∷ []) ≡ [] }
+    ensures never_subscribed { applying server_asked P01 (Open ∷ gets lasting ∷ sends accepting ∷ sends (delivers_for "a" (7 ∷ [])) ∷ []) ≡ [] }
+    ensures unanswered { applying server_asked P01 (Open ∷ gets lasting ∷ sends accepting ∷ gets (asks_named 7 1 "a" 0) ∷ sends (delivers_for "a" (7 ∷ [])) ∷ []) ≡ 5 ∷ [] }
+    ensures refused { applying server_asked P01 (Open ∷ gets lasting ∷ sends accepting ∷ gets (asks_named 7 1 "a" 0) ∷ sends (delivers_for "a" (7 ∷ [])) ∷ sends (Suback 1 (135 ∷ [])) ∷ sends (delivers_for "a" (7 ∷ [])) ∷ []) ≡ 5 ∷ [] }
+    ensures unsubscribed { applying server_asked P01 (Open ∷ gets lasting ∷ sends accepting ∷ gets (asks_named 7 1 "a" 0) ∷ sends (Suback 1 (0 ∷ [])) ∷ gets (removes 2 "a") ∷ sends (Unsuback 2 (0 ∷ [])) ∷ sends (delivers_for "a" (7 ∷ [])) ∷ []) ≡ 8 ∷ [] }
+    ensures shared { applying server_asked P01 (Open ∷ gets lasting ∷ sends accepting ∷ gets (asks_named 7 1 "$share/g/a" 0) ∷ sends (Suback 1 (0 ∷ [])) ∷ sends (delivers_for "a" (7 ∷ [])) ∷ sends (delivers_for "b" (7 ∷ [])) ∷ []) ≡ 6 ∷ [] }
+    ensures lacking { applying server_asked P01 (Open ∷ gets lasting ∷ sends (lacking None None (Some 0) None) ∷ gets (asks_named 7 1 "a" 0) ∷ sends (Suback 1 (0 ∷ [])) ∷ sends (delivers_for "a" (7 ∷ [])) ∷ []) ≡ 6 ∷ [] }
+    ensures duplicate { applying server_asked P01 (Open ∷ gets lasting ∷ sends accepting ∷ gets (asks_named 7 1 "a" 1) ∷ sends (Suback 1 (1 ∷ [])) ∷ sends (delivers_once_for false "a" (7 ∷ [])) ∷ sends (delivers_once_for true "a" (7 ∷ [])) ∷ []) ≡ 6 ∷ [] }
+    ensures alias { applying server_asked P01 (Open ∷ gets (asking None None None (Some 5) None) ∷ sends accepting ∷ gets (asks_named 7 1 "a" 0) ∷ sends (Suback 1 (0 ∷ [])) ∷ sends (aliased_for [] 1 (7 ∷ [])) ∷ sends (aliased_for (codes "a") 1 (7 ∷ [])) ∷ sends (aliased_for [] 1 (7 ∷ [])) ∷ []) ≡ 8 ∷ 7 ∷ [] }
+    ensures resumed { applying server_asked P01 (Open ∷ gets lasting ∷ sends accepting ∷ gets (asks_named 7 1 "a" 0) ∷ sends (Suback 1 (0 ∷ [])) ∷ Close ∷ Open ∷ gets again ∷ sends resuming ∷ sends (delivers_for "a" (7 ∷ [])) ∷ []) ≡ 10 ∷ [] }
+    ensures new_session { applying server_asked P01 (Open ∷ gets lasting ∷ sends accepting ∷ gets (asks_named 7 1 "a" 0) ∷ sends (Suback 1 (0 ∷ [])) ∷ Close ∷ Open ∷ gets lasting ∷ sends accepting ∷ sends (delivers_for "a" (7 ∷ [])) ∷ gets (asks 2 "a" 0) ∷ sends (Suback 2 (0 ∷ [])) ∷ sends (delivers_for "a" (7 ∷ [])) ∷ []) ≡ 13 ∷ [] }
+    ensures turned_away { applying server_asked P01 (Open ∷ gets lasting ∷ gets (asks_named 7 1 "a" 0) ∷ sends (delivers_for "a" (7 ∷ [])) ∷ sends refusing ∷ []) ≡ [] }
+    ensures bad_subscribe { applying server_asked P01 (Open ∷ gets lasting ∷ sends accepting ∷ gets (asks_named 7 1 "a" 0) ∷ sends (Suback 1 (0 ∷ [])) ∷ sends (delivers_for "a" (7 ∷ [])) ∷ gets_bad 130 packets.W15 ∷ sends (delivers_for "a" (7 ∷ [])) ∷ []) ≡ 6 ∷ [] }
+    ensures lost { applying server_asked P01 (Open ∷ gets lasting ∷ sends accepting ∷ gets (asks_named 7 1 "a" 0) ∷ sends (Suback 1 (0 ∷ [])) ∷ gets_lost ∷ sends (delivers_for "a" (7 ∷ [])) ∷ []) ≡ [] }
+    ensures unasked { applying server P01 (Open ∷ gets lasting ∷ sends accepting ∷ gets (asks_named 7 1 "a" 0) ∷ sends (Suback 1 (0 ∷ [])) ∷ sends (delivers_for "a" (7 ∷ [])) ∷ []) ≡ [] }
+    ensures of_client { applying client_asked P01 (Open ∷ sends lasting ∷ gets accepting ∷ gets (asks_named 7 1 "a" 0) ∷ sends (Suback 1 (0 ∷ [])) ∷ sends (delivers_for "a" (7 ∷ [])) ∷ []) ≡ [] }
 {}
 
 /// Deliveries that have to have a Subscription Identifier (P02).

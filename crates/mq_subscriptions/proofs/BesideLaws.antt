@@ -26,9 +26,9 @@ use Rattle.mq_filters.specs.Standings.{allows}
 use Rattle.mq_fates.proofs.Exports.{neither, nothing as nothing-there, only-none}
 use Rattle.mq_subscriptions.specs.declared.subscribed.Subscriptions.{Subscriptions}
 use Rattle.mq_subscriptions.specs.declared.matching.verdicts.Verdicts.{Verdicts}
-use Rattle.mq_subscriptions.specs.Burden.{subscribed_count, asked_filters, aliased_ids, matching_burden}
+use Rattle.mq_subscriptions.specs.Burden.{subscribed_count, identified_count, asked_filters, aliased_ids, matching_burden}
 use Rattle.mq_subscriptions.specs.Concerns.{has_delivery, concerns_matching}
-use Rattle.mq_subscriptions.specs.Matchings.{serves, some_waits, settled_asked, settled_granted, identifies, waiting_packet, asks_in}
+use Rattle.mq_subscriptions.specs.Matchings.{serves, some_waits, settled_asked, settled_granted, identifier_in, waiting_packet, asks_in}
 use Rattle.mq_subscriptions.specs.Firsts.{first_next}
 use Rattle.mq_subscriptions.specs.Standings.{goes_on, sharing_next, topic_next}
 use Rattle.mq_subscriptions.specs.Deletings.{unclear_next, requests_under, answers_under}
@@ -115,8 +115,8 @@ idle-takes f n q s = record {
       let old = list_any (allows among qos) (set_of s.settled kind) in
       let test = serves kind among qos in
       sym (
-      ap (λ b. cond b (goes_on f n && (old || some_waits test s.waiting.entries)) (cond (accepts f) (old || (settled_asked test s.waiting.entries (identifies n) (received_subscription n) || settled_granted test s.waiting.entries (sent_grant n))) old)) q.inside
-      ∙ ap (λ o. cond (accepts f) (old || (settled_asked test s.waiting.entries (identifies n) o || settled_granted test s.waiting.entries (sent_grant n))) old) q.subscribe
+      ap (λ b. cond b (goes_on f n && (old || some_waits test s.waiting.entries)) (cond (accepts f) (old || (settled_asked test s.waiting.entries (identifier_in n) (received_subscription n) || settled_granted test s.waiting.entries (sent_grant n))) old)) q.inside
+      ∙ ap (λ o. cond (accepts f) (old || (settled_asked test s.waiting.entries (identifier_in n) o || settled_granted test s.waiting.entries (sent_grant n))) old) q.subscribe
       ∙ ap (λ o. cond (accepts f) (old || settled_granted test s.waiting.entries o) old) q.grant
       ∙ ap (λ b. cond (accepts f) b old) (or_false old)
       ∙ either (accepts f) old);
@@ -151,9 +151,9 @@ idle-event true f unclear say topics n q = sym (ap (λ v. cond (accepts f) (cond
 -- ---- how much is kept
 
 pub matching-within : (tested : Tested) (bound : Bool) (taken : Option Fate) (past : List Seen) (weighs kept topics : ℕ) → bound ≡ binds B08 tested → (bound ≡ false → weighs ≡ 0) → weighs ≡ kept + topics
-    → (bound ≡ true → kept ≤ 4 * subscribed_count tested.role taken past + asked_filters past) → (bound ≡ true → topics ≤ aliased_ids past) → weighs ≤ 4 * matching_burden tested taken past
+    → (bound ≡ true → kept ≤ 4 * subscribed_count tested.role taken past + identified_count tested.role taken past + asked_filters past) → (bound ≡ true → topics ≤ aliased_ids past) → weighs ≤ 4 * matching_burden tested taken past
 matching-within tested true taken past weighs kept topics is none sum a b =
-    let burden : matching_burden tested taken past ≡ subscribed_count tested.role taken past + asked_filters past + aliased_ids past = ap (λ b. cond b (subscribed_count tested.role taken past + asked_filters past + aliased_ids past) 0) (sym is) in
+    let burden : matching_burden tested taken past ≡ subscribed_count tested.role taken past + identified_count tested.role taken past + asked_filters past + aliased_ids past = ap (λ b. cond b (subscribed_count tested.role taken past + identified_count tested.role taken past + asked_filters past + aliased_ids past) 0) (sym is) in
     let x = a refl in let y = b refl in
     omega (arith, burden, sum, x, y)
 matching-within tested false taken past weighs kept topics is none sum a b = let zero = none refl in omega (arith, zero)

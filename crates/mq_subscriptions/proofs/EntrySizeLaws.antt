@@ -10,6 +10,15 @@ use Rattle.mq_rules.specs.Moments.{Moment, note, Among}
 use Rattle.mq_rules.specs.Exchanges.{Exchange}
 use Rattle.mq_fates.specs.Holding.{total}
 
+-- what is found is under another identifier
+pub apart : {K : Type 0} (k : ℕ) (es : List (ℕ × K)) → AllByRecursion (λ y. nat_eq k y ≡ false) (keys_of es) → (i : ℕ) (v : K) → lookup (nat_eq i) es ≡ Some v → nat_eq k i ≡ false
+apart k [] all i v h = absurd (cc)
+apart k (e ∷ es) all i v h = go (nat_eq i e.0) refl h (λ rest. apart k es all.1 i v rest)
+  where
+    go : (b : Bool) → nat_eq i e.0 ≡ b → cond b (Some e.1) (lookup (nat_eq i) es) ≡ Some v → (lookup (nat_eq i) es ≡ Some v → nat_eq k i ≡ false) → nat_eq k i ≡ false
+    go true is h rest = ap (nat_eq k) (eqb-true i e.0 is) ∙ all.0
+    go false is h rest = rest h
+
 module _ {K : Type 0} (x : Exchange) (size : K → ℕ) where
   -- the identifier of a cause
   abbrev name : Moment → Option ℕ
@@ -38,15 +47,6 @@ module _ {K : Type 0} (x : Exchange) (size : K → ℕ) where
       go : (b : Bool) → weigh j + total (without i weigh) ms ≤ total weigh ms → weigh j + (cond b 0 (weigh m) + total (without i weigh) ms) ≤ weigh m + total weigh ms
       go true rest = omega (arith, rest)
       go false rest = omega (arith, rest)
-
-  -- what is found is under another identifier
-  apart : (k : ℕ) (es : List (ℕ × K)) → AllByRecursion (λ y. nat_eq k y ≡ false) (keys_of es) → (i : ℕ) (v : K) → lookup (nat_eq i) es ≡ Some v → nat_eq k i ≡ false
-  apart k [] all i v h = absurd (cc)
-  apart k (e ∷ es) all i v h = go (nat_eq i e.0) refl h (λ rest. apart k es all.1 i v rest)
-    where
-      go : (b : Bool) → nat_eq i e.0 ≡ b → cond b (Some e.1) (lookup (nat_eq i) es) ≡ Some v → (lookup (nat_eq i) es ≡ Some v → nat_eq k i ≡ false) → nat_eq k i ≡ false
-      go true is h rest = ap (nat_eq k) (eqb-true i e.0 is) ∙ all.0
-      go false is h rest = rest h
 
   other-name : (k i : ℕ) (o : Option ℕ) → nat_eq k i ≡ false → is_id i o ≡ true → is_id k o ≡ false
   other-name k i None other is = absurd (cc)

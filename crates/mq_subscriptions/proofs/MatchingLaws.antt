@@ -5,6 +5,7 @@ use Rattle.std.specs.Option.{option_or, option_and_then}
 use Rattle.std.specs.List.{list_any, sum_by, IsDistinct, AllByRecursion}
 use Rattle.std.specs.Map.{keys_of, lookup}
 use Rattle.std.proofs.lemmas.Bool.{eq-eqb, eqb-true, le-leb}
+use Rattle.indexmap.specs.IndexMap.{get}
 use Rattle.mq_topic.specs.Matching.{matches}
 use Rattle.mq_rules.specs.declared.role.Role.{Role}
 use Rattle.mq_rules.specs.declared.role.Tested.{Tested}
@@ -20,7 +21,7 @@ use Rattle.mq_rules.specs.Exchanges.{causes, answers, first_unanswered, subscrib
 use Rattle.mq_rules.specs.Subscriptions.{Standing, requested}
 use Rattle.mq_rules.specs.Under.{fate_before}
 use Rattle.mq_rules.specs.Wishes.{is_share, shared_filter}
-use Rattle.mq_rules.specs.MatchingSubscriptions.{Subscribed, subscribed_to, subscribed_by, is_identified_at, subscribed_from, is_about, some_matching, any_subscription, may_be_retained, asks_in_vain}
+use Rattle.mq_rules.specs.MatchingSubscriptions.{Subscribed, subscribed_to, subscribed_by, identifier_at, subscribed_from, is_about, some_matching, any_subscription, is_named, may_be_retained, asks_in_vain}
 use Rattle.mq_rules.specs.FurtherSubscriptions.{answers_subscribe}
 use Rattle.mq_rules.proofs.Exports.{among-some, among-within, and_false, and_true, begun-same, both_true, differ, not_true, on_open-connected, option_or-none, or_false, or_left, or_parts, or_right, same_test, session-members, some-among}
 use Rattle.mq_filters.specs.Standings.{allows, has_ceiling}
@@ -32,7 +33,7 @@ use Rattle.mq_subscriptions.specs.Countings.{names, subscription_count, grant_co
 use Rattle.mq_subscriptions.specs.Firsts.{found_first, first_next}
 use Rattle.mq_subscriptions.specs.Standings.{goes_on, first_code, other_codes}
 use Rattle.mq_subscriptions.specs.Deletings.{codes_given, requests_under, answers_under}
-use Rattle.mq_subscriptions.specs.Matchings.{Kind, any, unidentified, retained, in_vain, of_kind, serves, Asks, identifies, asks_of, granted_to, as_asked, some_waits, subscribed_one, first_waiting, waits, subscribed_in, settled_from, settled_asked, settled_granted, settled_next, waiting_packet, waiting_next, TakesIn, AreSubscriptions, least, matches_kept}
+use Rattle.mq_subscriptions.specs.Matchings.{Question, any, unidentified, retained, in_vain, answers_to, Kind, passing, bearing, of_kind, has_text, serves, Asks, identifier_in, asks_of, granted_to, as_asked, some_waits, subscribed_one, first_waiting, waits, subscribed_in, settled_from, settled_asked, settled_granted, settled_next, waiting_packet, waiting_next, TakesIn, AreSubscriptions, least, matches_kept}
 use Rattle.mq_subscriptions.specs.Subscribings.{set_of, says, TakesInEvent, AreKept, AreMatched, AnswersAll}
 use Rattle.mq_subscriptions.proofs.FirstLaws.{found-next}
 use Rattle.mq_subscriptions.proofs.StandingLaws.{boundary-none, boundary-parts, session-some, some-alike, some-either, some-none, unsubscribed}
@@ -41,15 +42,15 @@ use Rattle.mq_subscriptions.proofs.AnsweredLaws.{connection-inside, first-stands
 
 -- ---- the subscriptions of a SUBSCRIBE, filter by filter
 
-pub one_more : (t : Subscribed → Bool) (identified : Bool) (g : NotedFilter) (gs : List NotedFilter) (codes : List ℕ)
-    → list_any t (subscribed_by identified (g ∷ gs) codes) ≡ (list_any t (subscribed_one identified g (first_code codes)) || list_any t (subscribed_by identified gs (other_codes codes)))
-one_more t identified g gs [] = ap (λ b. b || list_any t (subscribed_by identified gs [])) (sym (or_false (t (subscribed_to identified g (requested g)))))
-one_more t identified g gs (code ∷ codes) = go (refuses code)
+pub one_more : (t : Subscribed → Bool) (identifier : Option ℕ) (g : NotedFilter) (gs : List NotedFilter) (codes : List ℕ)
+    → list_any t (subscribed_by identifier (g ∷ gs) codes) ≡ (list_any t (subscribed_one identifier g (first_code codes)) || list_any t (subscribed_by identifier gs (other_codes codes)))
+one_more t identifier g gs [] = ap (λ b. b || list_any t (subscribed_by identifier gs [])) (sym (or_false (t (subscribed_to identifier g (requested g)))))
+one_more t identifier g gs (code ∷ codes) = go (refuses code)
   where
-    go : (b : Bool) → list_any t (cond b (subscribed_by identified gs codes) (subscribed_to identified g code ∷ subscribed_by identified gs codes))
-        ≡ (list_any t (cond b [] (subscribed_to identified g code ∷ [])) || list_any t (subscribed_by identified gs codes))
+    go : (b : Bool) → list_any t (cond b (subscribed_by identifier gs codes) (subscribed_to identifier g code ∷ subscribed_by identifier gs codes))
+        ≡ (list_any t (cond b [] (subscribed_to identifier g code ∷ [])) || list_any t (subscribed_by identifier gs codes))
     go true = refl
-    go false = ap (λ b. b || list_any t (subscribed_by identified gs codes)) (sym (or_false (t (subscribed_to identified g code))))
+    go false = ap (λ b. b || list_any t (subscribed_by identifier gs codes)) (sym (or_false (t (subscribed_to identifier g code))))
 
 -- ---- what waits, with one event more
 
@@ -168,7 +169,7 @@ first-session role (Some f) i past m acc h = connection-session role f acc past 
 
 -- what is kept of a SUBSCRIBE
 abbrev kept_of : Moment → Subscription → Asks
-kept_of j s = record { filters = s.filters; is_identified = is_identified_at j }
+kept_of j s = record { filters = s.filters; identifier = identifier_at j }
 
 -- the moment waits, and what is kept of it passes the test
 abbrev waits_so : (ℕ → Asks → Bool) → List Seen → Moment → Bool
@@ -275,7 +276,7 @@ module _ (role : Role) (taken : Option Fate) (past : List Seen) (waiting : List 
 
 -- the subscriptions of a SUBSCRIBE, with these Reason Codes
 abbrev subscribed_so : Moment → List ℕ → Subscription → List Subscribed
-subscribed_so j codes s = subscribed_by (is_identified_at j) s.filters codes
+subscribed_so j codes s = subscribed_by (identifier_at j) s.filters codes
 
 -- what counts whatever comes, and what waits
 parts : (t : Subscribed → Bool) (past : List Seen) (j : Moment) → Among j (moments past) → list_any t (subscribed_in past j) ≡ (list_any t (settled_from past j) || waits_so (λ n w. list_any t (as_asked w)) past j)
@@ -436,7 +437,7 @@ module _ (e : Seen) (past : List Seen) (on : IsOnConnection e past) where
 
   -- the event itself counts if it is a SUBSCRIBE under whose identifier one waits
   settled-newest : (t : Subscribed → Bool) → list_any t (settled_from (e ∷ past) (newest e past))
-      ≡ is_some_and (λ s. is_some (first_waiting s.identifier past) && list_any t (subscribed_by (identifies e.note) s.filters [])) (received_subscription e.note)
+      ≡ is_some_and (λ s. is_some (first_waiting s.identifier past) && list_any t (subscribed_by (identifier_in e.note) s.filters [])) (received_subscription e.note)
   settled-newest t = by (received_subscription e.note) refl
     where
       known : Bool → Option (List ℕ) → Option Subscription → Bool
@@ -447,7 +448,7 @@ module _ (e : Seen) (past : List Seen) (on : IsOnConnection e past) where
       nothing false = refl
 
       by : (o : Option Subscription) → received_subscription e.note ≡ o
-          → list_any t (settled_from (e ∷ past) (newest e past)) ≡ is_some_and (λ s. is_some (first_waiting s.identifier past) && list_any t (subscribed_by (identifies e.note) s.filters [])) o
+          → list_any t (settled_from (e ∷ past) (newest e past)) ≡ is_some_and (λ s. is_some (first_waiting s.identifier past) && list_any t (subscribed_by (identifier_in e.note) s.filters [])) o
       by None p = ap (known (waits (e ∷ past) (newest e past)) (codes_given (e ∷ past) (newest e past))) p ∙ nothing (waits (e ∷ past) (newest e past))
       by (Some s) p =
           ap (known (waits (e ∷ past) (newest e past)) (codes_given (e ∷ past) (newest e past))) p
@@ -478,7 +479,7 @@ module _ (e : Seen) (past : List Seen) (on : IsOnConnection e past) where
               ∙ ap (is_some_and (is_same (newest e past))) first
               ∙ fresh (first_waiting s.identifier past) refl
 
-          go : (o : Option Moment) → known (not (is_some o)) None (Some s) ≡ (is_some o && list_any t (subscribed_by (identifies e.note) s.filters []))
+          go : (o : Option Moment) → known (not (is_some o)) None (Some s) ≡ (is_some o && list_any t (subscribed_by (identifier_in e.note) s.filters []))
           go None = refl
           go (Some m) = refl
 
@@ -525,7 +526,7 @@ module _ (tested : Tested) (fate : Fate) (e : Seen) (past : List Seen) (on : IsO
         ∙ go (is_boundary e.note) refl
       where
         asked_by : Option Subscription → Bool
-        asked_by o = is_some_and (λ s. is_some (first_waiting s.identifier past) && list_any t (subscribed_by (identifies e.note) s.filters [])) o
+        asked_by o = is_some_and (λ s. is_some (first_waiting s.identifier past) && list_any t (subscribed_by (identifier_in e.note) s.filters [])) o
 
         later : Bool
         later = some (λ j. list_any t (settled_from (e ∷ past) j)) before
@@ -534,7 +535,7 @@ module _ (tested : Tested) (fate : Fate) (e : Seen) (past : List Seen) (on : IsO
         old = some (λ j. list_any t (settled_from past j)) before
 
         asked : Bool
-        asked = settled_asked t waiting (identifies e.note) (received_subscription e.note)
+        asked = settled_asked t waiting (identifier_in e.note) (received_subscription e.note)
 
         granted : Bool
         granted = settled_granted t waiting (sent_grant e.note)
@@ -551,10 +552,10 @@ module _ (tested : Tested) (fate : Fate) (e : Seen) (past : List Seen) (on : IsO
             ∙ some-either (λ j. list_any t (settled_from past j)) (granted_so past t (sent_grant e.note)) before
             ∙ ap (λ b. old || b) (some-granted t (sent_grant e.note))
 
-        asked-is : is_boundary e.note ≡ false → accepts fate ≡ true → (o : Option Subscription) → asked_by o ≡ settled_asked t waiting (identifies e.note) o
+        asked-is : is_boundary e.note ≡ false → accepts fate ≡ true → (o : Option Subscription) → asked_by o ≡ settled_asked t waiting (identifier_in e.note) o
         asked-is h acc None = refl
         asked-is h acc (Some s) =
-            ap (λ b. b && list_any t (subscribed_by (identifies e.note) s.filters []))
+            ap (λ b. b && list_any t (subscribed_by (identifier_in e.note) s.filters []))
             (sym (ap is_some (known h s.identifier ∙ ap (λ b. only b (option_and_then asks_of (first_waiting s.identifier past))) acc) ∙ found-some s.identifier))
 
         granted-none : is_boundary e.note ≡ false → accepts fate ≡ false → (g : Option Grant) → settled_granted t waiting g ≡ false
@@ -633,35 +634,40 @@ matched-kept tested fate k s topic kept distinct kind qos test same =
     t : Subscribed → Bool
     t = serves kind (λ f. matches f topic) qos
 
+least_is : (c : ℕ) → nat_le 0 c ≡ true
+least_is c = le-leb 0 c (omega arith)
+
+turned : (a b : Bool) (c : ℕ) → (a && b) ≡ (b && (a && nat_le 0 c))
+turned a b c = go a b ∙ ap (λ d. b && (a && d)) (sym (least_is c))
+  where
+    go : (a b : Bool) → (a && b) ≡ (b && (a && true))
+    go true true = refl
+    go true false = refl
+    go false true = refl
+    go false false = refl
+
+-- those that have a Subscription Identifier
+pub named-kept : (tested : Tested) (fate : Fate) (k : Moment) (s : Subscriptions) (topic : List ℕ) (i : ℕ) → AreKept s tested (Some fate) k.past → IsDistinct nat_eq (keys_of s.waiting.entries)
+    → some_matching tested.role fate k topic (is_named i) ≡ matches_kept (set_of s.settled) s.waiting.entries (bearing i) topic 0
+named-kept tested fate k s topic i kept distinct = matched-kept tested fate k s topic kept distinct (bearing i) 0 (is_named i) (λ x. turned (is_about topic x) (is_named i x) x.ceiling)
+
 -- what is said of those that match a topic answers the questions to them
 pub matched-answers : (tested : Tested) (fate : Fate) (k : Moment) (s : Subscriptions) (topic : List ℕ) (m : Matched) → AreKept s tested (Some fate) k.past → AreMatched s topic m
     → AnswersAll m (some_matching tested.role fate k topic)
 matched-answers tested fate k s topic m kept said = record {
-  any_is = is any 0 any_subscription (λ x. whole (is_about topic x) x.ceiling) ∙ sym (said.says_so any 0) ∙ there m.ceiling;
-  ceiling_is = λ qos. is any qos (λ x. nat_le qos x.ceiling) (λ x. refl) ∙ sym (said.says_so any qos);
-  unidentified_is = is unidentified 0 (λ x. not x.is_identified) (λ x. turned (is_about topic x) (not x.is_identified) x.ceiling) ∙ sym (said.says_so unidentified 0);
-  retained_is = is retained 0 may_be_retained (λ x. turned (is_about topic x) (may_be_retained x) x.ceiling) ∙ sym (said.says_so retained 0);
-  in_vain_is = is in_vain 0 asks_in_vain (λ x. turned (is_about topic x) (asks_in_vain x) x.ceiling) ∙ sym (said.says_so in_vain 0);
+  any_is = is (passing any) 0 any_subscription (λ x. whole (is_about topic x) x.ceiling) ∙ sym (said.says_so any 0) ∙ there m.ceiling;
+  ceiling_is = λ qos. is (passing any) qos (λ x. nat_le qos x.ceiling) (λ x. refl) ∙ sym (said.says_so any qos);
+  unidentified_is = is (passing unidentified) 0 (λ x. not (is_some x.identifier)) (λ x. turned (is_about topic x) (not (is_some x.identifier)) x.ceiling) ∙ sym (said.says_so unidentified 0);
+  retained_is = is (passing retained) 0 may_be_retained (λ x. turned (is_about topic x) (may_be_retained x) x.ceiling) ∙ sym (said.says_so retained 0);
+  in_vain_is = is (passing in_vain) 0 asks_in_vain (λ x. turned (is_about topic x) (asks_in_vain x) x.ceiling) ∙ sym (said.says_so in_vain 0);
 }
   where
     is : (kind : Kind) (qos : ℕ) (test : Subscribed → Bool) → ((x : Subscribed) → (is_about topic x && test x) ≡ serves kind (λ f. matches f topic) qos x)
         → some_matching tested.role fate k topic test ≡ matches_kept (set_of s.settled) s.waiting.entries kind topic qos
     is = matched-kept tested fate k s topic kept said.distinct
 
-    least_is : (c : ℕ) → nat_le 0 c ≡ true
-    least_is c = le-leb 0 c (omega arith)
-
     whole : (a : Bool) (c : ℕ) → (a && true) ≡ (true && (a && nat_le 0 c))
     whole a c = ap (λ b. a && b) (sym (least_is c))
-
-    turned : (a b : Bool) (c : ℕ) → (a && b) ≡ (b && (a && nat_le 0 c))
-    turned a b c = go a b ∙ ap (λ d. b && (a && d)) (sym (least_is c))
-      where
-        go : (a b : Bool) → (a && b) ≡ (b && (a && true))
-        go true true = refl
-        go true false = refl
-        go false true = refl
-        go false false = refl
 
     there : (o : Option ℕ) → has_ceiling (nat_le 0) o ≡ is_some o
     there None = refl
@@ -669,76 +675,114 @@ matched-answers tested fate k s topic m kept said = record {
 
 -- ---- what is kept of one filter
 
+-- a Subscription Identifier is missing where there is none
+turned-not : (a b : Bool) → a ≡ not b → b ≡ not a
+turned-not true true h = absurd (cc)
+turned-not true false h = refl
+turned-not false true h = refl
+turned-not false false h = absurd (cc)
+
 -- the sets with one subscription more
-pub added : (old new : Settled) (g : NotedFilter) (text : List ℕ) (identified keeps vain : Bool) (qos : ℕ) (among : List ℕ → Bool) (most : ℕ) → text ≡ g.filter
-    → keeps ≡ may_be_retained (subscribed_to identified g qos) → vain ≡ asks_in_vain (subscribed_to identified g qos)
-    → list_any (allows among most) new.any ≡ (list_any (allows among most) old.any || (true && ((among text || (is_share text && among (shared_filter text))) && nat_le most qos)))
-    → list_any (allows among most) new.unidentified ≡ (list_any (allows among most) old.unidentified || (not identified && ((among text || (is_share text && among (shared_filter text))) && nat_le most qos)))
-    → list_any (allows among most) new.retained ≡ (list_any (allows among most) old.retained || (keeps && ((among text || (is_share text && among (shared_filter text))) && nat_le most qos)))
-    → list_any (allows among most) new.in_vain ≡ (list_any (allows among most) old.in_vain || (vain && ((among text || (is_share text && among (shared_filter text))) && nat_le most qos)))
-    → (kind : Kind) → list_any (allows among most) (set_of new kind) ≡ (list_any (allows among most) (set_of old kind) || list_any (serves kind among most) (subscribed_to identified g qos ∷ []))
-added old new g text identified keeps vain qos among most is k v one two three four kind =
-    go kind ∙ ap (λ b. list_any (allows among most) (set_of old kind) || b) (sym (or_false (serves kind among most (subscribed_to identified g qos))))
+pub added : (old new : Kind → List Standing) (g : NotedFilter) (text : List ℕ) (identifier : Option ℕ) (lacking keeps vain : Bool) (qos : ℕ) (among : List ℕ → Bool) (most : ℕ) → text ≡ g.filter
+    → is_some identifier ≡ not lacking → keeps ≡ may_be_retained (subscribed_to identifier g qos) → vain ≡ asks_in_vain (subscribed_to identifier g qos)
+    → list_any (allows among most) (new (passing any)) ≡ (list_any (allows among most) (old (passing any)) || (true && ((among text || (is_share text && among (shared_filter text))) && nat_le most qos)))
+    → list_any (allows among most) (new (passing unidentified)) ≡ (list_any (allows among most) (old (passing unidentified)) || (lacking && ((among text || (is_share text && among (shared_filter text))) && nat_le most qos)))
+    → list_any (allows among most) (new (passing retained)) ≡ (list_any (allows among most) (old (passing retained)) || (keeps && ((among text || (is_share text && among (shared_filter text))) && nat_le most qos)))
+    → list_any (allows among most) (new (passing in_vain)) ≡ (list_any (allows among most) (old (passing in_vain)) || (vain && ((among text || (is_share text && among (shared_filter text))) && nat_le most qos)))
+    → ((i : ℕ) → list_any (allows among most) (new (bearing i)) ≡ (list_any (allows among most) (old (bearing i)) || (is_id i identifier && ((among text || (is_share text && among (shared_filter text))) && nat_le most qos))))
+    → (kind : Kind) → list_any (allows among most) (new kind) ≡ (list_any (allows among most) (old kind) || list_any (serves kind among most) (subscribed_to identifier g qos ∷ []))
+added old new g text identifier lacking keeps vain qos among most is l k v one two three four five kind =
+    go kind ∙ ap (λ b. list_any (allows among most) (old kind) || b) (sym (or_false (serves kind among most (subscribed_to identifier g qos))))
   where
     has : List ℕ → Bool
     has t = (among t || (is_share t && among (shared_filter t))) && nat_le most qos
 
-    go : (kind : Kind) → list_any (allows among most) (set_of new kind) ≡ (list_any (allows among most) (set_of old kind) || serves kind among most (subscribed_to identified g qos))
-    go any = one ∙ ap (λ t. list_any (allows among most) old.any || has t) is
-    go unidentified = two ∙ ap (λ t. list_any (allows among most) old.unidentified || (not identified && has t)) is
-    go retained = three ∙ ap (λ t. list_any (allows among most) old.retained || (keeps && has t)) is ∙ ap (λ b. list_any (allows among most) old.retained || (b && has g.filter)) k
-    go in_vain = four ∙ ap (λ t. list_any (allows among most) old.in_vain || (vain && has t)) is ∙ ap (λ b. list_any (allows among most) old.in_vain || (b && has g.filter)) v
+    before : Kind → Bool
+    before kind = list_any (allows among most) (old kind)
+
+    go : (kind : Kind) → list_any (allows among most) (new kind) ≡ (before kind || serves kind among most (subscribed_to identifier g qos))
+    go (passing any) = one ∙ ap (λ t. before (passing any) || has t) is
+    go (passing unidentified) = two ∙ ap (λ t. before (passing unidentified) || (lacking && has t)) is ∙ ap (λ b. before (passing unidentified) || (b && has g.filter)) (turned-not (is_some identifier) lacking l)
+    go (passing retained) = three ∙ ap (λ t. before (passing retained) || (keeps && has t)) is ∙ ap (λ b. before (passing retained) || (b && has g.filter)) k
+    go (passing in_vain) = four ∙ ap (λ t. before (passing in_vain) || (vain && has t)) is ∙ ap (λ b. before (passing in_vain) || (b && has g.filter)) v
+    go (bearing i) = five i ∙ ap (λ t. before (bearing i) || (is_id i identifier && has t)) is
 
 -- what is said of those that match, with one that does; and with one that doesn't
-pub said-more : (old new : Matched) (g : NotedFilter) (text topic : List ℕ) (identified keeps vain about : Bool) → text ≡ g.filter
+pub said-more : (old new : Matched) (g : NotedFilter) (text topic : List ℕ) (identifier : Option ℕ) (lacking keeps vain about : Bool) → text ≡ g.filter
     → about ≡ (matches text topic || (is_share text && matches (shared_filter text) topic)) → about ≡ true
-    → keeps ≡ may_be_retained (subscribed_to identified g (requested g)) → vain ≡ asks_in_vain (subscribed_to identified g (requested g))
+    → is_some identifier ≡ not lacking → keeps ≡ may_be_retained (subscribed_to identifier g (requested g)) → vain ≡ asks_in_vain (subscribed_to identifier g (requested g))
     → ((qos : ℕ) → has_ceiling (nat_le qos) new.ceiling ≡ (has_ceiling (nat_le qos) old.ceiling || has_ceiling (nat_le qos) (Some (requested g))))
-    → new.unidentified ≡ (old.unidentified || not identified) → new.retained ≡ (old.retained || keeps) → new.in_vain ≡ (old.in_vain || vain)
-    → (kind : Kind) (qos : ℕ) → says new kind qos ≡ (says old kind qos || serves kind (λ f. matches f topic) (least kind qos) (subscribed_to identified g (requested g)))
-said-more old new g text topic identified keeps vain about is so found k v one two three four = go
+    → new.unidentified ≡ (old.unidentified || lacking) → new.retained ≡ (old.retained || keeps) → new.in_vain ≡ (old.in_vain || vain)
+    → (question : Question) (qos : ℕ) → says new question qos ≡ (says old question qos || serves (passing question) (λ f. matches f topic) (least question qos) (subscribed_to identifier g (requested g)))
+said-more old new g text topic identifier lacking keeps vain about is so found l k v one two three four = go
   where
     s : Subscribed
-    s = subscribed_to identified g (requested g)
+    s = subscribed_to identifier g (requested g)
 
     matches_it : is_about topic s ≡ true
     matches_it = ap (λ t. matches t topic || (is_share t && matches (shared_filter t) topic)) (sym is) ∙ sym so ∙ found
 
     -- where it matches, only the question is left
     left : (b : Bool) → b ≡ (b && (is_about topic s && nat_le 0 (requested g)))
-    left b = sym (ap (λ c. b && (c && nat_le 0 (requested g))) matches_it ∙ ap (λ c. b && c) (le-leb 0 (requested g) (omega arith)) ∙ whole b)
+    left b = sym (ap (λ c. b && (c && nat_le 0 (requested g))) matches_it ∙ ap (λ c. b && c) (least_is (requested g)) ∙ whole b)
       where
         whole : (b : Bool) → (b && true) ≡ b
         whole true = refl
         whole false = refl
 
-    go : (kind : Kind) (qos : ℕ) → says new kind qos ≡ (says old kind qos || serves kind (λ f. matches f topic) (least kind qos) s)
+    go : (question : Question) (qos : ℕ) → says new question qos ≡ (says old question qos || serves (passing question) (λ f. matches f topic) (least question qos) s)
     go any qos = one qos ∙ ap (λ c. has_ceiling (nat_le qos) old.ceiling || (c && nat_le qos (requested g))) (sym matches_it)
-    go unidentified qos = two ∙ ap (λ b. old.unidentified || b) (left (not identified))
+    go unidentified qos = two ∙ ap (λ b. old.unidentified || b) (turned-not (is_some identifier) lacking l ∙ left (not (is_some identifier)))
     go retained qos = three ∙ ap (λ b. old.retained || b) (k ∙ left (may_be_retained s))
     go in_vain qos = four ∙ ap (λ b. old.in_vain || b) (v ∙ left (asks_in_vain s))
 
-pub said-same : (m : Matched) (g : NotedFilter) (text topic : List ℕ) (identified about : Bool) → text ≡ g.filter → about ≡ (matches text topic || (is_share text && matches (shared_filter text) topic)) → about ≡ false
-    → (kind : Kind) (qos : ℕ) → says m kind qos ≡ (says m kind qos || serves kind (λ f. matches f topic) (least kind qos) (subscribed_to identified g (requested g)))
-said-same m g text topic identified about is so none kind qos =
-    sym (ap (λ b. says m kind qos || (of_kind kind s && (b && nat_le (least kind qos) (requested g)))) (ap (λ t. matches t topic || (is_share t && matches (shared_filter t) topic)) (sym is) ∙ sym so ∙ none)
-    ∙ ap (λ b. says m kind qos || b) (and_false (of_kind kind s))
-    ∙ or_false (says m kind qos))
+pub said-same : (m : Matched) (g : NotedFilter) (text topic : List ℕ) (identifier : Option ℕ) (about : Bool) → text ≡ g.filter → about ≡ (matches text topic || (is_share text && matches (shared_filter text) topic)) → about ≡ false
+    → (question : Question) (qos : ℕ) → says m question qos ≡ (says m question qos || serves (passing question) (λ f. matches f topic) (least question qos) (subscribed_to identifier g (requested g)))
+said-same m g text topic identifier about is so none question qos =
+    sym (ap (λ b. says m question qos || (answers_to question s && (b && nat_le (least question qos) (requested g)))) (ap (λ t. matches t topic || (is_share t && matches (shared_filter t) topic)) (sym is) ∙ sym so ∙ none)
+    ∙ ap (λ b. says m question qos || b) (and_false (answers_to question s))
+    ∙ or_false (says m question qos))
   where
     s : Subscribed
-    s = subscribed_to identified g (requested g)
+    s = subscribed_to identifier g (requested g)
+
+-- ---- what waits, by its Subscription Identifier
+
+-- a filter of a SUBSCRIBE with this identifier serves a topic if it matches it
+abbrev pub is_about_filter : List ℕ → NotedFilter → Bool
+is_about_filter topic g = matches g.filter topic || (is_share g.filter && matches (shared_filter g.filter) topic)
+
+pub asked_named : (i : ℕ) (topic : List ℕ) (identifier : Option ℕ) (gs : List NotedFilter) → list_any (serves (bearing i) (λ f. matches f topic) 0) (subscribed_by identifier gs []) ≡ (is_id i identifier && list_any (is_about_filter topic) gs)
+asked_named i topic identifier [] = sym (and_false (is_id i identifier))
+asked_named i topic identifier (g ∷ gs) =
+    ap (λ b. (is_id i identifier && (is_about_filter topic g && b)) || list_any (serves (bearing i) (λ f. matches f topic) 0) (subscribed_by identifier gs [])) (least_is (requested g))
+    ∙ ap (λ b. (is_id i identifier && (is_about_filter topic g && true)) || b) (asked_named i topic identifier gs)
+    ∙ both (is_id i identifier) (is_about_filter topic g) (list_any (is_about_filter topic) gs)
+  where
+    both : (a b c : Bool) → ((a && (b && true)) || (a && c)) ≡ (a && (b || c))
+    both true true c = refl
+    both true false c = refl
+    both false b c = refl
 
 -- ---- at the beginning
 
-pub none-weighs : (s : Settled) (waiting : List (ℕ × Asks)) → ((kind : Kind) → set_of s kind ≡ []) → waiting ≡ []
-    → (length s.any + length s.unidentified) + (length s.retained + length s.in_vain) + sum_by (λ e. at_least_one (length e.1.filters)) waiting ≡ 0
-none-weighs s waiting h none =
-    let one : length s.any ≡ 0 = ap length (h any) in
-    let two : length s.unidentified ≡ 0 = ap length (h unidentified) in
-    let three : length s.retained ≡ 0 = ap length (h retained) in
-    let four : length s.in_vain ≡ 0 = ap length (h in_vain) in
+pub none_stands : (s : Settled) → s.any ≡ [] → s.unidentified ≡ [] → s.retained ≡ [] → s.in_vain ≡ [] → ((i : ℕ) → get nat_eq s.identified i ≡ None) → (kind : Kind) → set_of s kind ≡ []
+none_stands s a b c d none (passing any) = a
+none_stands s a b c d none (passing unidentified) = b
+none_stands s a b c d none (passing retained) = c
+none_stands s a b c d none (passing in_vain) = d
+none_stands s a b c d none (bearing i) = ap (λ o. unwrap_or o []) (none i)
+
+pub none-weighs : (s : Settled) (waiting : List (ℕ × Asks)) → ((kind : Kind) → set_of s kind ≡ []) → s.identified.entries ≡ [] → waiting ≡ []
+    → (length s.any + length s.unidentified) + (length s.retained + length s.in_vain) + sum_by (λ e. length e.1) s.identified.entries + sum_by (λ e. at_least_one (length e.1.filters)) waiting ≡ 0
+none-weighs s waiting h empty none =
+    let one : length s.any ≡ 0 = ap length (h (passing any)) in
+    let two : length s.unidentified ≡ 0 = ap length (h (passing unidentified)) in
+    let three : length s.retained ≡ 0 = ap length (h (passing retained)) in
+    let four : length s.in_vain ≡ 0 = ap length (h (passing in_vain)) in
+    let five : sum_by (λ (e : ℕ × List Standing). length e.1) s.identified.entries ≡ 0 = ap (sum_by (λ (e : ℕ × List Standing). length e.1)) empty in
     let rest : sum_by (λ (e : ℕ × Asks). at_least_one (length e.1.filters)) waiting ≡ 0 = ap (sum_by (λ (e : ℕ × Asks). at_least_one (length e.1.filters))) none in
-    omega (arith, one, two, three, four, rest)
+    omega (arith, one, two, three, four, five, rest)
 
 pub none-kept : (sets : Kind → List Standing) (waiting : List (ℕ × Asks)) (tested : Tested) (taken : Option Fate) → ((kind : Kind) → sets kind ≡ []) → waiting ≡ [] → AreSubscriptions sets waiting tested taken []
 none-kept sets waiting tested taken h none = record {

@@ -1,14 +1,16 @@
--- What is said of a delivery by the subscriptions that match its topic: B08, B09, P02, R01 and R02.
-use Rattle.std.proofs.Common.{◌≡◌, ℕ, ◌+◌, ◌<◌, ◌==◌, nat_le, Bool, true, false, cond, ◌&&◌, ◌||◌, not, List, [], ◌∷◌, length, Option, Some, None, refl, ap, sym, subst, ◌∙◌}
+-- What is said of a delivery by the subscriptions that match its topic: B08, B09, P01, P02, R01 and R02.
+use Rattle.std.proofs.Common.{◌≡◌, ℕ, ◌+◌, ◌<◌, ◌==◌, nat_eq, nat_le, nat_lt, Bool, true, false, cond, ◌&&◌, ◌||◌, not, List, [], ◌∷◌, length, Option, Some, None, refl, ap, sym, subst, ◌∙◌}
 use Rattle.std.specs.Prelude.{is_some, option_map, unwrap_or}
 use Rattle.std.specs.Option.{option_and_then}
+use Rattle.std.specs.List.{list_any, IsDistinct}
+use Rattle.std.specs.Map.{keys_of}
 use Rattle.mq_rules.specs.declared.role.Role.{Role}
 use Rattle.mq_rules.specs.declared.role.Role.TheVariants.{Client, Server}
 use Rattle.mq_rules.specs.declared.role.Further.{Further}
 use Rattle.mq_rules.specs.declared.role.Tested.{Tested}
 use Rattle.mq_rules.specs.declared.fate.Fate.{Fate}
 use Rattle.mq_rules.specs.declared.rule.Rule.{Rule}
-use Rattle.mq_rules.specs.declared.rule.Rule.TheVariants.{B01, B06, B08, B09, P02, R01, R02}
+use Rattle.mq_rules.specs.declared.rule.Rule.TheVariants.{B01, B06, B08, B09, P01, P02, R01, R02}
 use Rattle.mq_rules.specs.declared.note.Note.{Note}
 use Rattle.mq_rules.specs.declared.note.Note.TheVariants as notes
 use Rattle.mq_rules.specs.declared.note.Seen.{Seen}
@@ -20,7 +22,7 @@ use Rattle.mq_rules.specs.Moments.{Moment, newest, note, is_next, some}
 use Rattle.mq_rules.specs.Connections.{connection, is_connected, latest_fate, accepts, session, needs_connection, first_connack, IsOnConnection}
 use Rattle.mq_rules.specs.Subscriptions.{last_set, topic_of, asks_to_share}
 use Rattle.mq_rules.specs.FurtherSubscriptions.{is_clear_before, since_began}
-use Rattle.mq_rules.specs.MatchingSubscriptions.{Subscribed, some_matching, is_matched_so, is_sharing, takes_identifiers, any_subscription, are_identified, are_unretained, are_shared, applies_B08, breaks_B08, applies_B09, breaks_B09, applies_P02, breaks_P02, applies_R01, breaks_R01, applies_R02, breaks_R02}
+use Rattle.mq_rules.specs.MatchingSubscriptions.{Subscribed, some_matching, is_matched_so, is_sharing, takes_identifiers, any_subscription, is_named, are_identified, are_unretained, are_shared, applies_B08, breaks_B08, applies_B09, breaks_B09, applies_P01, breaks_P01, applies_P02, breaks_P02, applies_R01, breaks_R01, applies_R02, breaks_R02}
 use Rattle.mq_rules.specs.Rules.{binds, found_line, line_of, lines, same_rule}
 use Rattle.mq_rules.specs.Statements.{statement, in_session}
 use Rattle.mq_rules.specs.Faults.{offset_of}
@@ -35,10 +37,10 @@ use Rattle.mq_subscriptions.specs.declared.subscribed.Subscriptions.{Subscriptio
 use Rattle.mq_subscriptions.specs.declared.subscribed.Matched.{Matched}
 use Rattle.mq_subscriptions.specs.declared.matching.verdicts.Verdicts.{Verdicts}
 use Rattle.mq_subscriptions.specs.Standings.{topic_kept}
-use Rattle.mq_subscriptions.specs.Subscribings.{AreKept, AnswersAll}
+use Rattle.mq_subscriptions.specs.Subscribings.{set_of, AreKept, AnswersAll}
 use Rattle.mq_subscriptions.specs.Grouping.{of_matching}
-use Rattle.mq_subscriptions.specs.Verdicts.{sought_of, sought_by, are_named, verdicts, breaks_by, tests_by, nothing, of_publish, of_note, of_event, refuses_identifiers, takes_by, Answered, Blames, IsBeside}
-use Rattle.mq_subscriptions.proofs.MatchingLaws.{matched-answers}
+use Rattle.mq_subscriptions.specs.Verdicts.{sought_of, sought_by, lacks, verdicts, breaks_by, tests_by, said_of, nothing, of_publish, of_note, of_event, refuses_identifiers, takes_by, Answered, Blames, IsBeside}
+use Rattle.mq_subscriptions.proofs.MatchingLaws.{matched-answers, named-kept}
 
 -- ---- what binds
 
@@ -46,6 +48,11 @@ binds-B09 : (role : Role) (releases : Bool) (further : Further) → binds B09 (r
 unfolding line_of found_line lines
 binds-B09 Client releases further = refl
 binds-B09 Server releases further = refl
+
+binds-P01 : (role : Role) (releases : Bool) (further : Further) → binds P01 (record { role = role; releases = releases; further = further }) ≡ binds B08 (record { role = role; releases = releases; further = further })
+unfolding line_of found_line lines
+binds-P01 Client releases further = refl
+binds-P01 Server releases further = refl
 
 binds-P02 : (role : Role) (releases : Bool) (further : Further) → binds P02 (record { role = role; releases = releases; further = further }) ≡ binds B08 (record { role = role; releases = releases; further = further })
 unfolding line_of found_line lines
@@ -106,6 +113,10 @@ sought-same m matching a = λ i. record {
   in_vain = sym a.in_vain_is i;
 }
 
+-- so does what was found under Subscription Identifiers
+pub lacks-same : (test by : ℕ → Bool) (identifiers : List ℕ) → ((i : ℕ) → test i ≡ by i) → list_any (λ i. not (by i)) identifiers ≡ list_any (λ i. not (test i)) identifiers
+lacks-same test by identifiers same = λ x. list_any (λ i. not (sym (same i) x)) identifiers
+
 -- a PUBLISH is sent on a connection that is open, and opens none
 publish-needs : (n : Note) (p : PublishNote) → sent_publish n ≡ Some p → (needs_connection n ≡ true) × (is_open n ≡ false)
 publish-needs (notes.Sent item) p h = (refl, refl)
@@ -119,14 +130,19 @@ module _ (tested : Tested) (f : Fate) (s : Subscriptions) (sharing unclear : Boo
   matching topic = some_matching tested.role f k topic
 
   abbrev pub say : Bool → PublishNote → List ℕ → Verdicts
-  say wide p topic = verdicts wide sharing (takes_by refusing) p (sought_of (matching topic))
+  say wide p topic = said_of wide sharing (takes_by refusing) p (matching topic)
 
   same-fate : (p : PublishNote) → sent_publish e.note ≡ Some p → fate_before tested f e past ≡ Some f
   same-fate p h = ap (λ b. cond b (latest_fate tested.role past) (Some f)) (publish-needs e.note p h).1
 
   -- the subscriptions that are kept answer it
   pub answered : (bound : Bool) → (bound ≡ true → AreKept s tested (fate_before tested f e past) past) → bound ≡ true → accepts f ≡ true → (p : PublishNote) → sent_publish e.note ≡ Some p → Answered s matching
-  answered bound kept is taken p h = record { each = λ topic m said. matched-answers tested f k s topic m (subst (λ o. AreKept s tested o past) (same-fate p h) (kept is)) said }
+  answered bound kept is taken p h =
+      let kept_now : AreKept s tested (Some f) past = subst (λ o. AreKept s tested o past) (same-fate p h) (kept is) in
+      record {
+        each = λ topic m said. matched-answers tested f k s topic m kept_now said;
+        named_is = λ topic i distinct. named-kept tested f k s topic i kept_now distinct;
+      }
 
   module _ (beside : IsBeside sharing unclear refusing topics tested (Some f) past) where
     sharing-is : sharing ≡ is_sharing tested.role f k
@@ -209,6 +225,10 @@ module _ (tested : Tested) (f : Fate) (s : Subscriptions) (sharing unclear : Boo
     unfolding breaks_B09
     broken-B09 = of-judged (λ v. v.granted) refl false (λ p matching. is_sharing tested.role f k && (matching any_subscription && not (matching (λ s. nat_le (qos_number p.qos) s.ceiling)))) bound server (λ server connected beside p topic. ap (λ c. c && (matching topic any_subscription && not (matching topic (λ s. nat_le (qos_number p.qos) s.ceiling)))) (sharing-is beside)) b
 
+    broken-P01 : (of_event bound f unclear (say false) topics e.note).named ≡ (bound && (accepts f && breaks_P01 tested.role f k))
+    unfolding breaks_P01
+    broken-P01 = of-judged (λ v. v.named) refl false (λ p matching. matching any_subscription && list_any (λ i. not (matching (is_named i))) p.subscription_identifiers) bound server (λ server connected beside p topic. refl) b
+
     broken-P02 : (of_event bound f unclear (say false) topics e.note).identified ≡ (bound && (accepts f && breaks_P02 tested.role f k))
     unfolding breaks_P02
     broken-P02 = of-judged (λ v. v.identified) refl false (λ p matching. (takes_identifiers tested.role k && are_identified matching) && not p.has_subscription_identifier) bound server (λ server connected beside p topic. ap (λ c. (c && are_identified (matching topic)) && not p.has_subscription_identifier) (takes-is beside server connected)) b
@@ -229,6 +249,10 @@ module _ (tested : Tested) (f : Fate) (s : Subscriptions) (sharing unclear : Boo
     unfolding applies_B09
     tested-B09 = of-judged (λ v. v.granted) refl true (λ p matching. is_sharing tested.role f k && is_acknowledged p.qos) bound server (λ server connected beside p topic. ap (λ c. c && is_acknowledged p.qos) (sharing-is beside)) b
 
+    tested-P01 : (of_event bound f unclear (say true) topics e.note).named ≡ (bound && (accepts f && applies_P01 tested.role f k))
+    unfolding applies_P01
+    tested-P01 = of-judged (λ v. v.named) refl true (λ p matching. nat_lt 0 (length p.subscription_identifiers) && matching any_subscription) bound server (λ server connected beside p topic. refl) b
+
     tested-P02 : (of_event bound f unclear (say true) topics e.note).identified ≡ (bound && (accepts f && applies_P02 tested.role f k))
     unfolding applies_P02
     tested-P02 = of-judged (λ v. v.identified) refl true (λ p matching. takes_identifiers tested.role k && are_identified matching) bound server (λ server connected beside p topic. ap (λ c. c && are_identified (matching topic)) (takes-is beside server connected)) b
@@ -246,6 +270,7 @@ module _ (tested : Tested) (f : Fate) (s : Subscriptions) (sharing unclear : Boo
     blames at under = record {
       of_B08 = λ m. gains-by tested B08 (breaks_B08 tested.role) refl (λ o. refl) f at e past m bound (of_event bound f unclear (say false) topics e.note).matched under judged broken-B08;
       of_B09 = λ m. gains-by tested B09 (breaks_B09 tested.role) refl (λ o. refl) f at e past m bound (of_event bound f unclear (say false) topics e.note).granted under (judged ∙ sym (binds-B09 tested.role tested.releases tested.further)) broken-B09;
+      of_P01 = λ m. gains-by tested P01 (breaks_P01 tested.role) refl (λ o. refl) f at e past m bound (of_event bound f unclear (say false) topics e.note).named under (judged ∙ sym (binds-P01 tested.role tested.releases tested.further)) broken-P01;
       of_P02 = λ m. gains-by tested P02 (breaks_P02 tested.role) refl (λ o. refl) f at e past m bound (of_event bound f unclear (say false) topics e.note).identified under (judged ∙ sym (binds-P02 tested.role tested.releases tested.further)) broken-P02;
       of_R01 = λ m. gains-by tested R01 (breaks_R01 tested.role) refl (λ o. refl) f at e past m bound (of_event bound f unclear (say false) topics e.note).unretained under (judged ∙ sym (binds-R01 tested.role tested.releases tested.further)) broken-R01;
       of_R02 = λ m. gains-by tested R02 (breaks_R02 tested.role) refl (λ o. refl) f at e past m bound (of_event bound f unclear (say false) topics e.note).unshared under (judged ∙ sym (binds-R02 tested.role tested.releases tested.further)) broken-R02;
@@ -259,6 +284,10 @@ module _ (tested : Tested) (f : Fate) (s : Subscriptions) (sharing unclear : Boo
         → (old < e.place.position → new ≡ cond v.granted 1 0 + old) → new ≡ places_under tested (Some f) (e ∷ past) B09
     places-B09 at old new v under is was more = places-by tested B09 (applies_B09 tested.role) refl f at e past bound v.granted old new under (judged ∙ sym (binds-B09 tested.role tested.releases tested.further)) was (ap (λ w. w.granted) is ∙ tested-B09) more
 
+    pub places-P01 : (at old new : ℕ) (v : Verdicts) → IsUnder tested f at e past → v ≡ of_event bound f unclear (say true) topics e.note → old ≡ places_under tested (fate_before tested f e past) past P01
+        → (old < e.place.position → new ≡ cond v.named 1 0 + old) → new ≡ places_under tested (Some f) (e ∷ past) P01
+    places-P01 at old new v under is was more = places-by tested P01 (applies_P01 tested.role) refl f at e past bound v.named old new under (judged ∙ sym (binds-P01 tested.role tested.releases tested.further)) was (ap (λ w. w.named) is ∙ tested-P01) more
+
     pub places-P02 : (at old new : ℕ) (v : Verdicts) → IsUnder tested f at e past → v ≡ of_event bound f unclear (say true) topics e.note → old ≡ places_under tested (fate_before tested f e past) past P02
         → (old < e.place.position → new ≡ cond v.identified 1 0 + old) → new ≡ places_under tested (Some f) (e ∷ past) P02
     places-P02 at old new v under is was more = places-by tested P02 (applies_P02 tested.role) refl f at e past bound v.identified old new under (judged ∙ sym (binds-P02 tested.role tested.releases tested.further)) was (ap (λ w. w.identified) is ∙ tested-P02) more
@@ -271,25 +300,33 @@ module _ (tested : Tested) (f : Fate) (s : Subscriptions) (sharing unclear : Boo
         → (old < e.place.position → new ≡ cond v.unshared 1 0 + old) → new ≡ places_under tested (Some f) (e ∷ past) R02
     places-R02 at old new v under is was more = places-by tested R02 (applies_R02 tested.role) refl f at e past bound v.unshared old new under (judged ∙ sym (binds-R02 tested.role tested.releases tested.further)) was (ap (λ w. w.unshared) is ∙ tested-R02) more
 
--- ---- what is counted of the five is what is asked of one of them
+-- ---- what is counted of the six is what is asked of one of them
 
-pub matching-picked : (tested : Tested) (taken : Option Fate) (past : List Seen) (a b c d g : ℕ) (rule : Rule) → a ≡ places_under tested taken past B08 → b ≡ places_under tested taken past B09 → c ≡ places_under tested taken past P02 → d ≡ places_under tested taken past R01 → g ≡ places_under tested taken past R02
-    → of_matching rule ≡ true → cond (same_rule rule B08) a (cond (same_rule rule B09) b (cond (same_rule rule P02) c (cond (same_rule rule R01) d g))) ≡ places_under tested taken past rule
-matching-picked tested taken past a b c d g rule of_a of_b of_c of_d of_g judged = first (same_rule rule B08) refl judged
+pub matching-picked : (tested : Tested) (taken : Option Fate) (past : List Seen) (a b n c d g : ℕ) (rule : Rule) → a ≡ places_under tested taken past B08 → b ≡ places_under tested taken past B09
+    → n ≡ places_under tested taken past P01 → c ≡ places_under tested taken past P02 → d ≡ places_under tested taken past R01 → g ≡ places_under tested taken past R02
+    → of_matching rule ≡ true
+    → cond (same_rule rule B08) a (cond (same_rule rule B09) b (cond (same_rule rule P01) n (cond (same_rule rule P02) c (cond (same_rule rule R01) d g)))) ≡ places_under tested taken past rule
+matching-picked tested taken past a b n c d g rule of_a of_b of_n of_c of_d of_g judged = first (same_rule rule B08) refl judged
   where
-    fourth : (t : Bool) → same_rule rule R01 ≡ t → (t || same_rule rule R02) ≡ true → cond t d g ≡ places_under tested taken past rule
-    fourth true is h = places-same tested taken past R01 rule d of_d is
-    fourth false is h = places-same tested taken past R02 rule g of_g h
+    fifth : (t : Bool) → same_rule rule R01 ≡ t → (t || same_rule rule R02) ≡ true → cond t d g ≡ places_under tested taken past rule
+    fifth true is h = places-same tested taken past R01 rule d of_d is
+    fifth false is h = places-same tested taken past R02 rule g of_g h
 
-    third : (t : Bool) → same_rule rule P02 ≡ t → (t || (same_rule rule R01 || same_rule rule R02)) ≡ true → cond t c (cond (same_rule rule R01) d g) ≡ places_under tested taken past rule
-    third true is h = places-same tested taken past P02 rule c of_c is
-    third false is h = fourth (same_rule rule R01) refl h
+    fourth : (t : Bool) → same_rule rule P02 ≡ t → (t || (same_rule rule R01 || same_rule rule R02)) ≡ true → cond t c (cond (same_rule rule R01) d g) ≡ places_under tested taken past rule
+    fourth true is h = places-same tested taken past P02 rule c of_c is
+    fourth false is h = fifth (same_rule rule R01) refl h
 
-    second : (t : Bool) → same_rule rule B09 ≡ t → (t || (same_rule rule P02 || (same_rule rule R01 || same_rule rule R02))) ≡ true → cond t b (cond (same_rule rule P02) c (cond (same_rule rule R01) d g)) ≡ places_under tested taken past rule
+    third : (t : Bool) → same_rule rule P01 ≡ t → (t || (same_rule rule P02 || (same_rule rule R01 || same_rule rule R02))) ≡ true
+        → cond t n (cond (same_rule rule P02) c (cond (same_rule rule R01) d g)) ≡ places_under tested taken past rule
+    third true is h = places-same tested taken past P01 rule n of_n is
+    third false is h = fourth (same_rule rule P02) refl h
+
+    second : (t : Bool) → same_rule rule B09 ≡ t → (t || (same_rule rule P01 || (same_rule rule P02 || (same_rule rule R01 || same_rule rule R02)))) ≡ true
+        → cond t b (cond (same_rule rule P01) n (cond (same_rule rule P02) c (cond (same_rule rule R01) d g))) ≡ places_under tested taken past rule
     second true is h = places-same tested taken past B09 rule b of_b is
-    second false is h = third (same_rule rule P02) refl h
+    second false is h = third (same_rule rule P01) refl h
 
-    first : (t : Bool) → same_rule rule B08 ≡ t → (t || (same_rule rule B09 || (same_rule rule P02 || (same_rule rule R01 || same_rule rule R02)))) ≡ true
-        → cond t a (cond (same_rule rule B09) b (cond (same_rule rule P02) c (cond (same_rule rule R01) d g))) ≡ places_under tested taken past rule
+    first : (t : Bool) → same_rule rule B08 ≡ t → (t || (same_rule rule B09 || (same_rule rule P01 || (same_rule rule P02 || (same_rule rule R01 || same_rule rule R02))))) ≡ true
+        → cond t a (cond (same_rule rule B09) b (cond (same_rule rule P01) n (cond (same_rule rule P02) c (cond (same_rule rule R01) d g)))) ≡ places_under tested taken past rule
     first true is h = places-same tested taken past B08 rule a of_a is
     first false is h = second (same_rule rule B09) refl h

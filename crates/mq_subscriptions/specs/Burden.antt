@@ -17,6 +17,7 @@ use Rattle.mq_rules.specs.Exchanges.{Exchange, causes, answers, unsubscribe_unsu
 use Rattle.mq_rules.specs.Subscriptions.{Standing, last_set}
 use Rattle.mq_rules.specs.Rules.{binds}
 use Rattle.mq_rules.specs.Wishes.{is_share, shared_filter}
+use Rattle.mq_rules.specs.MatchingSubscriptions.{identifier_at}
 use Rattle.mq_subscriptions.specs.Standings.{codes_in, standing_by, waiting_from, weighed}
 use Rattle.mq_fates.specs.Holding.{total, number_in}
 
@@ -84,7 +85,7 @@ removed_filters log = total (λ j. cond (is_unanswered unsubscribe_unsuback log 
 abbrev pub deletions_burden : Tested → Option Fate → List Seen → ℕ
 deletions_burden tested taken log = cond (binds B06 tested) (requested_count tested.role taken log + asked_filters log + removed_filters log) 0
 
--- ---- subscriptions, by the filters that topics may match (MQTT 5.0, sections 3.8.4 and 4.8.2): kept if B08 to R02 are judged
+-- ---- subscriptions, by the filters that topics may match (MQTT 5.0, sections 3.8.4 and 4.8.2): kept if B08, B09, P01, P02, R01 and R02 are judged
 
 -- these filters; and of a shared subscription also that after its ShareName
 abbrev pub texts_of : NotedFilter → List (List ℕ)
@@ -106,6 +107,20 @@ subscribed_texts (j ∷ js) = texts_asked (received_subscription (note j)) ++ su
 unfoldable pub subscribed_count : Role → Option Fate → List Seen → ℕ
 subscribed_count role taken log = distinct_count bytes_eq (subscribed_texts (session role taken log))
 
+-- these texts, each after the Subscription Identifier that it is subscribed to with, if there is one
+abbrev pub texts_with : Option ℕ → List (List ℕ) → List (List ℕ)
+texts_with None texts = []
+texts_with (Some identifier) [] = []
+texts_with (Some identifier) (f ∷ fs) = (identifier ∷ f) ∷ texts_with (Some identifier) fs
+
+abbrev pub identified_texts : List Moment → List (List ℕ)
+identified_texts [] = []
+identified_texts (j ∷ js) = texts_with (identifier_at j) (texts_asked (received_subscription (note j))) ++ identified_texts js
+
+-- how many different ones with a Subscription Identifier they have: one that has several of these is counted for each
+unfoldable pub identified_count : Role → Option Fate → List Seen → ℕ
+identified_count role taken log = distinct_count bytes_eq (identified_texts (session role taken log))
+
 -- what is kept of subscriptions, and of topics beside those that deliveries are judged by
 abbrev pub matching_burden : Tested → Option Fate → List Seen → ℕ
-matching_burden tested taken log = cond (binds B08 tested) (subscribed_count tested.role taken log + asked_filters log + aliased_ids log) 0
+matching_burden tested taken log = cond (binds B08 tested) (subscribed_count tested.role taken log + identified_count tested.role taken log + asked_filters log + aliased_ids log) 0

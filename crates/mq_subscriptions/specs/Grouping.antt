@@ -2,7 +2,7 @@
 use Rattle.std.specs.Prelude.{◌≡◌, Bool, true, false, ◌&&◌, ◌||◌, not, refl}
 use Rattle.mq_rules.specs.declared.rule.Rule.{Rule}
 use Rattle.mq_rules.specs.declared.role.Role.{Role}
-use Rattle.mq_rules.specs.declared.rule.Rule.TheVariants.{W01, B01, B02, B03, B04, B05, B06, B07, B08, B09, P02, R01, R02}
+use Rattle.mq_rules.specs.declared.rule.Rule.TheVariants.{W01, B01, B02, B03, B04, B05, B06, B07, B08, B09, P01, P02, R01, R02}
 use Rattle.mq_rules.specs.Rules.{same_rule}
 use Rattle.mq_rules.specs.Occasions.{occasion}
 use Rattle.mq_fates.specs.Placings.{is_on_sessions, implied}
@@ -11,7 +11,7 @@ use Rattle.mq_fates.specs.Placings.{is_on_sessions, implied}
 
 -- by those that match what is delivered
 abbrev pub of_matching : Rule → Bool
-of_matching r = same_rule r B08 || (same_rule r B09 || (same_rule r P02 || (same_rule r R01 || same_rule r R02)))
+of_matching r = same_rule r B08 || (same_rule r B09 || (same_rule r P01 || (same_rule r P02 || (same_rule r R01 || same_rule r R02))))
 
 abbrev pub of_subscriptions : Rule → Bool
 of_subscriptions r = (same_rule r B01 || same_rule r B02) || (same_rule r B03 || (same_rule r B04 || (same_rule r B05 || ((same_rule r B06 || same_rule r B07) || of_matching r))))

@@ -1,13 +1,15 @@
--- What is said of a delivery by the subscriptions that match its topic: which of B08, B09, P02, R01 and R02 it breaks, and which of them it puts to the test. And what is kept for that
+-- What is said of a delivery by the subscriptions that match its topic: which of B08, B09, P01, P02, R01 and R02 it breaks, and which of them it puts to the test. And what is kept for that
 -- beside the subscriptions.
-use Rattle.std.specs.Prelude.{ℕ, ◌≡◌, nat_le, Bool, false, ◌&&◌, ◌||◌, not, cond, List, Option, None, is_some, option_map, unwrap_or}
+use Rattle.std.specs.Prelude.{ℕ, ◌≡◌, nat_eq, nat_le, nat_lt, Bool, false, ◌&&◌, ◌||◌, not, cond, List, length, Option, None, is_some, option_map, unwrap_or}
 use Rattle.std.specs.Option.{option_or}
+use Rattle.std.specs.List.{list_any, IsDistinct}
+use Rattle.std.specs.Map.{keys_of}
 use Rattle.mq_log.specs.declared.place.Place3.{Place3}
 use Rattle.mq_rules.specs.declared.role.Role.TheVariants.{Server}
 use Rattle.mq_rules.specs.declared.role.Tested.{Tested}
 use Rattle.mq_rules.specs.declared.fate.Fate.{Fate}
 use Rattle.mq_rules.specs.declared.rule.Rule.{Rule}
-use Rattle.mq_rules.specs.declared.rule.Rule.TheVariants.{B08, B09, P02, R01, R02}
+use Rattle.mq_rules.specs.declared.rule.Rule.TheVariants.{B08, B09, P01, P02, R01, R02}
 use Rattle.mq_rules.specs.declared.note.Note.{Note}
 use Rattle.mq_rules.specs.declared.note.Seen.{Seen}
 use Rattle.mq_rules.specs.declared.packet_note.PublishNote.{PublishNote}
@@ -17,7 +19,7 @@ use Rattle.mq_rules.specs.Notes.{is_acknowledged, is_boundary, qos_number, recei
 use Rattle.mq_rules.specs.Moments.{note, some}
 use Rattle.mq_rules.specs.Connections.{accepts, first_connack, on_open, session}
 use Rattle.mq_rules.specs.Subscriptions.{asks_to_share, last_set}
-use Rattle.mq_rules.specs.MatchingSubscriptions.{Subscribed, any_subscription, may_be_retained, asks_in_vain}
+use Rattle.mq_rules.specs.MatchingSubscriptions.{Subscribed, any_subscription, is_named, may_be_retained, asks_in_vain}
 use Rattle.mq_rules.specs.FurtherSubscriptions.{since_began}
 use Rattle.mq_rules.specs.Rules.{same_rule}
 use Rattle.mq_rules.specs.FaultKeys.{FaultMap}
@@ -27,7 +29,8 @@ use Rattle.mq_filters.specs.Standings.{has_ceiling}
 use Rattle.mq_subscriptions.specs.declared.subscribed.Matched.{Matched}
 use Rattle.mq_subscriptions.specs.declared.subscribed.Subscriptions.{Subscriptions}
 use Rattle.mq_subscriptions.specs.declared.matching.verdicts.Verdicts.{Verdicts}
-use Rattle.mq_subscriptions.specs.Subscribings.{AreMatched, AnswersAll}
+use Rattle.mq_subscriptions.specs.Matchings.{bearing, matches_kept}
+use Rattle.mq_subscriptions.specs.Subscribings.{set_of, AreMatched, AnswersAll}
 use Rattle.mq_subscriptions.specs.Standings.{goes_on, sharing_next, topic_kept, topic_next}
 use Rattle.mq_subscriptions.specs.Deletings.{unclear_next}
 
@@ -47,7 +50,7 @@ abbrev pub sought_of : ((Subscribed → Bool) → Bool) → Sought
 sought_of matching = record {
   any = matching any_subscription;
   within = λ qos. matching (λ s. nat_le qos s.ceiling);
-  unidentified = matching (λ s. not s.is_identified);
+  unidentified = matching (λ s. not (is_some s.identifier));
   retained = matching may_be_retained;
   in_vain = matching asks_in_vain;
 }
@@ -58,12 +61,17 @@ sought_by m = record { any = is_some m.ceiling; within = λ qos. has_ceiling (na
 -- What is said of the subscriptions that are kept answers all that is asked of those that match a topic.
 pub record Answered (s : Subscriptions) (matching : List ℕ → (Subscribed → Bool) → Bool) : Type 0 where
   pub each : (topic : List ℕ) (m : Matched) → AreMatched s topic m → AnswersAll m (matching topic)
+  pub named_is : (topic : List ℕ) (i : ℕ) → IsDistinct nat_eq (keys_of s.waiting.entries) → matching topic (is_named i) ≡ matches_kept (set_of s.settled) s.waiting.entries (bearing i) topic 0
+
+-- one of these Subscription Identifiers isn't that of a subscription that matches
+abbrev pub lacks : ((Subscribed → Bool) → Bool) → List ℕ → Bool
+lacks matching identifiers = list_any (λ i. not (matching (is_named i))) identifiers
 
 -- ---- what is said of a delivery, given whether the session has a shared subscription, and whether the server takes Subscription Identifiers
 
 -- each that matches has a Subscription Identifier; none may be sent what has RETAIN 1, of which none or some is shared and asks for retained messages
-abbrev pub are_named : Sought → Bool
-are_named s = s.any && not s.unidentified
+abbrev pub are_identified : Sought → Bool
+are_identified s = s.any && not s.unidentified
 
 abbrev pub are_plain : Sought → Bool
 are_plain s = s.any && not (s.retained || s.in_vain)
@@ -71,12 +79,13 @@ are_plain s = s.any && not (s.retained || s.in_vain)
 abbrev pub are_in_vain : Sought → Bool
 are_in_vain s = s.in_vain && not s.retained
 
--- what it breaks
-abbrev pub breaks_by : Bool → Bool → PublishNote → Sought → Verdicts
-breaks_by sharing takes p s = record {
+-- what it breaks, where one of its Subscription Identifiers isn't that of a subscription that matches, or each is
+abbrev pub breaks_by : Bool → Bool → PublishNote → Sought → Bool → Verdicts
+breaks_by sharing takes p s unnamed = record {
   matched = sharing && not s.any;
   granted = sharing && (s.any && not (s.within (qos_number p.qos)));
-  identified = (takes && are_named s) && not p.has_subscription_identifier;
+  named = s.any && unnamed;
+  identified = (takes && are_identified s) && not p.has_subscription_identifier;
   unretained = are_plain s && p.retain;
   unshared = are_in_vain s && p.retain;
 }
@@ -86,17 +95,22 @@ abbrev pub tests_by : Bool → Bool → PublishNote → Sought → Verdicts
 tests_by sharing takes p s = record {
   matched = sharing;
   granted = sharing && is_acknowledged p.qos;
-  identified = takes && are_named s;
+  named = nat_lt 0 (length p.subscription_identifiers) && s.any;
+  identified = takes && are_identified s;
   unretained = are_plain s;
   unshared = are_in_vain s;
 }
 
-abbrev pub verdicts : Bool → Bool → Bool → PublishNote → Sought → Verdicts
-verdicts wide sharing takes p s = cond wide (tests_by sharing takes p s) (breaks_by sharing takes p s)
+abbrev pub verdicts : Bool → Bool → Bool → PublishNote → Sought → Bool → Verdicts
+verdicts wide sharing takes p s unnamed = cond wide (tests_by sharing takes p s) (breaks_by sharing takes p s unnamed)
+
+-- by the word that says whether some subscription that matches passes a test
+abbrev pub said_of : Bool → Bool → Bool → PublishNote → ((Subscribed → Bool) → Bool) → Verdicts
+said_of wide sharing takes p matching = verdicts wide sharing takes p (sought_of matching) (lacks matching p.subscription_identifiers)
 
 -- none
 abbrev pub nothing : Verdicts
-nothing = record { matched = false; granted = false; identified = false; unretained = false; unshared = false }
+nothing = record { matched = false; granted = false; named = false; identified = false; unretained = false; unshared = false }
 
 -- of a PUBLISH with DUP 0 and a topic that is known; of an event where they are judged, on a connection that is accepted and in a session of which all requests could be read
 abbrev pub of_publish : (PublishNote → List ℕ → Verdicts) → (ℕ → Option (List ℕ)) → PublishNote → Verdicts
@@ -112,6 +126,7 @@ of_event bound f unclear say topics n = cond bound (cond (accepts f) (cond uncle
 pub record Blames (turns : ℕ → Rule → Bool) (broken : Verdicts) (place : Place3) (at : ℕ) (tested : Tested) (log : List Seen) : Type 0 where
   pub of_B08 : (m : FaultMap) → Gains (λ k r. same_rule r B08 && turns k r) tested log at m (judged_by broken.matched B08 place at m)
   pub of_B09 : (m : FaultMap) → Gains (λ k r. same_rule r B09 && turns k r) tested log at m (judged_by broken.granted B09 place at m)
+  pub of_P01 : (m : FaultMap) → Gains (λ k r. same_rule r P01 && turns k r) tested log at m (judged_by broken.named P01 place at m)
   pub of_P02 : (m : FaultMap) → Gains (λ k r. same_rule r P02 && turns k r) tested log at m (judged_by broken.identified P02 place at m)
   pub of_R01 : (m : FaultMap) → Gains (λ k r. same_rule r R01 && turns k r) tested log at m (judged_by broken.unretained R01 place at m)
   pub of_R02 : (m : FaultMap) → Gains (λ k r. same_rule r R02 && turns k r) tested log at m (judged_by broken.unshared R02 place at m)

@@ -33,10 +33,10 @@ deliveries_weigh s = filters_weigh s.filters + index_map_len s.topics
 abbrev pub deletions_weigh : Deletions → ℕ
 deletions_weigh s = index_map_len s.states + sum_by (λ e. at_least_one (length e.1.filters)) s.waiting.entries + sum_by (λ e. removes_weigh e.1) s.removing.entries
 
--- subscriptions: the filters of each kind, and the SUBSCRIBEs without their answer, each with its filters
+-- subscriptions: the filters of each kind, those under each Subscription Identifier, and the SUBSCRIBEs without their answer, each with its filters
 abbrev pub subscriptions_weigh : Subscriptions → ℕ
 subscriptions_weigh s =
-    (length s.settled.any + length s.settled.unidentified) + (length s.settled.retained + length s.settled.in_vain) + sum_by (λ e. at_least_one (length e.1.filters)) s.waiting.entries
+    (length s.settled.any + length s.settled.unidentified) + (length s.settled.retained + length s.settled.in_vain) + sum_by (λ e. length e.1) s.settled.identified.entries + sum_by (λ e. at_least_one (length e.1.filters)) s.waiting.entries
 
 -- subscriptions that match: those of the session, and the topics by their Topic Alias
 abbrev pub matching_weigh : Matching → ℕ

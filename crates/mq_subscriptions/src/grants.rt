@@ -24,6 +24,7 @@ ghost use Rattle.mq_subscriptions.specs.Grantings.{asks_under, asked_in, asked_n
 ghost use Rattle.mq_fates.specs.Placings.{on_one};
 ghost use Rattle.mq_subscriptions.specs.Weights.{grants_weigh};
 
+use crate::awaited::REFUSING;
 use indexmap::IndexMap;
 use mq_fates::{Asks, Discerning, Fated, Selective, Taken, judge_by};
 use mq_log::Place3;
@@ -33,9 +34,6 @@ use mq_rules::{
 };
 use std::alloc::Global;
 use std::marker::Model;
-
-/// The lowest Reason Code that refuses (MQTT 5.0, section 2.4).
-const REFUSING: u8 = 0x80;
 
 // ---- what a SUBSCRIBE asks for
 

@@ -1,4 +1,4 @@
-//! Watchers of the statements on subscriptions: B01 to B09, P02, R01 and R02.
+//! Watchers of the statements on subscriptions: B01 to B09, P01, P02, R01 and R02.
 #![tactic(auto)]
 
 mod awaited;

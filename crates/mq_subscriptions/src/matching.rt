@@ -20,7 +20,7 @@ ghost use Rattle.mq_subscriptions.specs.Concerns.{concerns_matching};
 ghost use Rattle.mq_subscriptions.specs.Grouping.{of_matching};
 ghost use Rattle.mq_subscriptions.specs.Subscribings.{AreKept, TakesInEvent};
 ghost use Rattle.mq_subscriptions.specs.Verdicts as judging;
-ghost use Rattle.mq_subscriptions.specs.Verdicts.{sought_of, Answered, IsBeside, TakesBeside, Blames};
+ghost use Rattle.mq_subscriptions.specs.Verdicts.{said_of, Answered, IsBeside, TakesBeside, Blames};
 ghost use Rattle.mq_subscriptions.specs.Weights.{matching_weigh};
 
 mod asking;
@@ -86,6 +86,7 @@ fn blame(broken: Verdicts, at: Place3, decided: u32, faults: &mut Faults) -> Res
 {
     judge_by(Rule::B08, broken.matched, at, decided, faults)?;
     judge_by(Rule::B09, broken.granted, at, decided, faults)?;
+    judge_by(Rule::P01, broken.named, at, decided, faults)?;
     judge_by(Rule::P02, broken.identified, at, decided, faults)?;
     judge_by(Rule::R01, broken.unretained, at, decided, faults)?;
     judge_by(Rule::R02, broken.unshared, at, decided, faults)?;
@@ -94,7 +95,7 @@ fn blame(broken: Verdicts, at: Place3, decided: u32, faults: &mut Faults) -> Res
 
 // ---- the watcher
 
-/// Watches B08, B09, P02, R01 and R02. It keeps nothing unless they are judged.
+/// Watches B08, B09, P01, P02, R01 and R02. It keeps nothing unless they are judged.
 #[derive(Drop)]
 pub struct Matching {
     alloc: Global,
@@ -148,16 +149,18 @@ impl Matching {
 
     // What a PUBLISH with this topic breaks, or puts to the test.
     fn judge_topic(&self, wide: bool, publish: &PublishNote, topic: &str) -> Verdicts
-        ensures { (matching : List ℕ → (Subscribed → Bool) → Bool) → Answered self.now.subscriptions matching → result ≡ judging.verdicts wide self.now.sharing (judging.takes_by self.now.refusing) publish.now (sought_of (matching topic.now)) }
+        ensures { (matching : List ℕ → (Subscribed → Bool) → Bool) → Answered self.now.subscriptions matching → result ≡ said_of wide self.now.sharing (judging.takes_by self.now.refusing) publish.now (matching topic.now) }
     {
         let found = self.subscriptions.matched(self.alloc, topic);
+        let identifiers = publish.subscription_identifiers.as_slice();
+        let unnamed = self.subscriptions.lacks_one(self.alloc, topic, identifiers);
         let takes = self.takes();
-        verdicts_on(wide, self.sharing, takes, publish, &found)
+        verdicts_on(wide, self.sharing, takes, publish, &found, unnamed)
     }
 
     // The same of any PUBLISH.
     fn judge_publish(&self, wide: bool, publish: &PublishNote) -> Verdicts
-        ensures { (matching : List ℕ → (Subscribed → Bool) → Bool) → Answered self.now.subscriptions matching → result ≡ judging.of_publish (λ p topic. judging.verdicts wide self.now.sharing (judging.takes_by self.now.refusing) p (sought_of (matching topic))) (get nat_eq self.now.topics) publish.now }
+        ensures { (matching : List ℕ → (Subscribed → Bool) → Bool) → Answered self.now.subscriptions matching → result ≡ judging.of_publish (λ p topic. said_of wide self.now.sharing (judging.takes_by self.now.refusing) p (matching topic)) (get nat_eq self.now.topics) publish.now }
     {
         if publish.duplicate {
             return nothing();
@@ -170,7 +173,7 @@ impl Matching {
 
     // The same of an event.
     fn judge_note(&self, wide: bool, note: &Note) -> Verdicts
-        ensures { (matching : List ℕ → (Subscribed → Bool) → Bool) → ((p : ThePublish) → sent_publish note.now ≡ Some p → Answered self.now.subscriptions matching) → result ≡ judging.of_note (λ p topic. judging.verdicts wide self.now.sharing (judging.takes_by self.now.refusing) p (sought_of (matching topic))) (get nat_eq self.now.topics) note.now }
+        ensures { (matching : List ℕ → (Subscribed → Bool) → Bool) → ((p : ThePublish) → sent_publish note.now ≡ Some p → Answered self.now.subscriptions matching) → result ≡ judging.of_note (λ p topic. said_of wide self.now.sharing (judging.takes_by self.now.refusing) p (matching topic)) (get nat_eq self.now.topics) note.now }
     {
         match note.sent_publish() {
             Some(publish) => self.judge_publish(wide, publish),
@@ -180,7 +183,7 @@ impl Matching {
 
     // The same, if the statements are judged, of an event of a connection that has this fate.
     fn judge(&self, wide: bool, fate: Fate, note: &Note) -> Verdicts
-        ensures { (matching : List ℕ → (Subscribed → Bool) → Bool) → (self.now.bound ≡ true → accepts fate ≡ true → (p : ThePublish) → sent_publish note.now ≡ Some p → Answered self.now.subscriptions matching) → result ≡ judging.of_event self.now.bound fate self.now.unclear (λ p topic. judging.verdicts wide self.now.sharing (judging.takes_by self.now.refusing) p (sought_of (matching topic))) (get nat_eq self.now.topics) note.now }
+        ensures { (matching : List ℕ → (Subscribed → Bool) → Bool) → (self.now.bound ≡ true → accepts fate ≡ true → (p : ThePublish) → sent_publish note.now ≡ Some p → Answered self.now.subscriptions matching) → result ≡ judging.of_event self.now.bound fate self.now.unclear (λ p topic. said_of wide self.now.sharing (judging.takes_by self.now.refusing) p (matching topic)) (get nat_eq self.now.topics) note.now }
     {
         if !self.bound {
             return nothing();

@@ -10,14 +10,12 @@ ghost use Rattle.mq_rules.specs.Weights.{in_word};
 ghost use Rattle.mq_subscriptions.specs.Burden.{at_least_one};
 ghost use Rattle.mq_subscriptions.specs.Deletings as deletings;
 
+use crate::awaited::REFUSING;
 use crate::filters::copy_of;
 use indexmap::IndexMap;
 use mq_rules::{FilterList, Memory, Note, NotedFilter, PacketFields};
 use std::alloc::Global;
 use std::marker::Model;
-
-/// The lowest Reason Code that refuses (MQTT 5.0, section 2.4).
-const REFUSING: u8 = 0x80;
 
 /// What is known of a Topic Filter.
 #[derive(Clone, Copy)]

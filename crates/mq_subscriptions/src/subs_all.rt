@@ -1,4 +1,4 @@
-//! What a server may deliver and how it answers what asks for it: B01 to B09, P02,
+//! What a server may deliver and how it answers what asks for it: B01 to B09, P01, P02,
 //! R01 and R02.
 ghost use Rattle.std.specs.Prelude.{◌≡◌, ◌&&◌, ◌||◌, [], Some, is_some};
 ghost use Rattle.mq_rules.specs.declared.rule.Rule.TheVariants.{B01, B07};
@@ -17,7 +17,7 @@ use mq_log::Place3;
 use mq_rules::{Both, Fate, Faults, Memory, Note, NoteRef, Noted, Rule, Tested};
 use std::alloc::Global;
 
-/// Watches B01 to B09, P02, R01 and R02.
+/// Watches B01 to B09, P01, P02, R01 and R02.
 pub struct Subs {
     watchers: Both<
         Deliveries,

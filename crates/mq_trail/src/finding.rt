@@ -116,6 +116,7 @@ fn is_in_session(rule: Rule) -> bool
         | Rule::B06
         | Rule::B07
         | Rule::B09
+        | Rule::P01
         | Rule::P02
         | Rule::R01
         | Rule::R02 => true,

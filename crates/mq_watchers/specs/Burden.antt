@@ -33,7 +33,7 @@ subscription_burden role taken log =
     standing_count role taken log + asked_filters log + unanswered_ids unsubscribe_unsuback log + aliases_sent log
 
 -- What these events give the statements on sessions to keep, where the latest connection is taken to have this fate. Requests are kept
--- only if B06 and B07 are judged, and subscriptions only if B08, B09, P02, R01 and R02 are.
+-- only if B06 and B07 are judged, and subscriptions only if B08, B09, P01, P02, R01 and R02 are.
 abbrev pub session_burden : Tested → Option Fate → List Seen → ℕ
 session_burden tested taken log =
     sending_burden tested.role taken log + exchange_burden tested.role taken log + release_burden tested.role taken log + subscription_burden tested.role taken log

@@ -35,8 +35,8 @@ pub fn watch_all<W: Watch>(
     Ok(())
 }
 
-/// Watches S01 to S07, E1A to E7R, L1 to L3, B01 to B09, P02, R01 and R02 in the events of a log,
-/// the oldest first: the faults grow by exactly their failing pairs in the log.
+/// Watches S01 to S07, E1A to E7R, L1 to L3, B01 to B09, P01, P02, R01 and R02 in the events of a
+/// log, the oldest first: the faults grow by exactly their failing pairs in the log.
 ///
 /// # Errors
 ///

@@ -20,7 +20,7 @@ type Exchanges = Both<Selecting<Messages>, Selecting<Requests>>;
 /// What is released for onward delivery, and what is delivered.
 type Delivering = Both<Selecting<Releases>, Selecting<Subs>>;
 
-/// Watches S01 to S07, E1A to E7R, L1 to L3, B01 to B09, P02, R01 and R02.
+/// Watches S01 to S07, E1A to E7R, L1 to L3, B01 to B09, P01, P02, R01 and R02.
 pub struct Sessions {
     watchers: Both<Sending, Both<Exchanges, Delivering>>,
 }

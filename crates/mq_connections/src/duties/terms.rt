@@ -333,7 +333,8 @@ fn subscribes_wrongly(connack: Option<ConnackNote>, fields: &PacketFields) -> bo
 fn is_wrong_subscribe(connack: Option<ConnackNote>, wishes: WishesNote) -> bool
     ensures { result ≡ errors.is_wrong_subscribe connack wishes }
 {
-    wishes.has_no_local_share || (wishes.has_subscription_identifier && lacks_identifiers(connack))
+    wishes.has_no_local_share
+        || (wishes.subscription_identifier.is_some() && lacks_identifiers(connack))
 }
 
 // The Topic Alias that the client sets: a PUBLISH is received with it and a Topic Name.

@@ -135,7 +135,9 @@ fn event_words(rule: Rule) -> &'static str
         Rule::B05 => ": the SUBSCRIBE, which asks for less",
         Rule::B06 => ": the UNSUBSCRIBE, for a filter that was subscribed",
         Rule::B07 => ": the UNSUBSCRIBE, for a filter that was never subscribed",
-        Rule::B09 | Rule::P02 | Rule::R01 | Rule::R02 => ": the SUBSCRIBE that matches",
+        Rule::B09 | Rule::P01 | Rule::P02 | Rule::R01 | Rule::R02 => {
+            ": the SUBSCRIBE that matches"
+        }
         Rule::F01 => ": the CONNACK, with Retain Available 0",
         Rule::F02 => ": the CONNACK, with Wildcard Subscription Available 0",
         Rule::F03 => ": the CONNACK, with Subscription Identifier Available 0",

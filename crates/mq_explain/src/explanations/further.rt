@@ -1,5 +1,5 @@
-//! The texts of `explain` for the further statements (B05 to B09, P02, R01, R02, F01 to F06, V03,
-//! V04, V06, C24, D01 to D03, D05, A01 to A03, K01 and K02), which are judged on request.
+//! The texts of `explain` for the further statements (B05 to B09, P01, P02, R01, R02, F01 to F06,
+//! V03, V04, V06, C24, D01 to D03, D05, A01 to A03, K01 and K02), which are judged on request.
 
 /// The text of `explain B05`.
 pub const B05: &str = "B05 server sec-3.9.3\n\
@@ -110,6 +110,32 @@ pub const B09: &str = "B09 server MQTT-3.8.4-8,MQTT-4.8.2-3\n\
     the message's QoS and the QoS that the SUBACK granted to this client.\n\n\
     See: MQTT 5.0, sections 3.8.4 and 4.8.2.\n";
 
+/// The text of `explain P01`.
+pub const P01: &str = "P01 server sec-3.3.4\n\
+    A Subscription Identifier of a PUBLISH is that of a matching subscription.\n\n\
+    Why: A client passes a message on by its identifiers. By a wrong one it gives it\n\
+    to a handler that didn't ask for it, and the right one never sees it.\n\n\
+    Judged: At a PUBLISH with DUP 0 and one or more Subscription Identifiers, if its\n\
+    topic matches some subscription of the session, and one of the identifiers isn't\n\
+    that of the SUBSCRIBE of any that it matches, on a connection that the server\n\
+    accepted. Of a shared subscription the filter after the ShareName counts, and\n\
+    its own text too. A filter that its SUBACK refused doesn't count. Any other\n\
+    does, also before the SUBACK, and after it was replaced or unsubscribed, so that\n\
+    each identifier that it ever had in the session will do. If none matches, that\n\
+    is B01 or B08. A PUBLISH without an identifier is left to P02, and it isn't\n\
+    judged whether all are there, or whether one comes twice. Nothing is judged in a\n\
+    session after bytes that may be a SUBSCRIBE or an UNSUBSCRIBE, and break a rule.\n\
+    Decided at once, or at the CONNACK if that comes later. It is a further\n\
+    statement: it is judged with --all.\n\n\
+    To see it tested: Subscribe with a Subscription Identifier, and let the server\n\
+    send a PUBLISH with DUP 0 that has one. Several filters that overlap in part,\n\
+    each with an identifier of its own, say most. Let another client have the same\n\
+    filter with another identifier, and look at retained messages too.\n\n\
+    In a server: A PUBLISH is made once for several clients, with the identifiers of\n\
+    one of them, or has those of all filters of its client. Collect those of the\n\
+    subscriptions that match, for each session by itself.\n\n\
+    See: MQTT 5.0, sections 3.3.2.3.8 and 3.3.4.\n";
+
 /// The text of `explain P02`.
 pub const P02: &str = "P02 server MQTT-3.3.4-3\n\
     A PUBLISH has a Subscription Identifier, if each matching subscription has.\n\n\
@@ -122,11 +148,11 @@ pub const P02: &str = "P02 server MQTT-3.3.4-3\n\
     subscription the filter after the ShareName counts, and its own text too. A\n\
     filter that its SUBACK refused doesn't count. Any other does, also before the\n\
     SUBACK, and after it was replaced or unsubscribed, so that what was asked for\n\
-    once without an identifier isn't judged. Nor is it judged which identifier the\n\
-    PUBLISH has, or whether it has all. Nothing is judged in a session after bytes\n\
-    that may be a SUBSCRIBE or an UNSUBSCRIBE, and break a rule. Decided at once, or\n\
-    at the CONNACK if that comes later. It is a further statement: it is judged with\n\
-    --all.\n\n\
+    once without an identifier isn't judged. Which identifiers the PUBLISH has is\n\
+    left to P01, and it isn't judged whether it has all. Nothing is judged in a\n\
+    session after bytes that may be a SUBSCRIBE or an UNSUBSCRIBE, and break a rule.\n\
+    Decided at once, or at the CONNACK if that comes later. It is a further\n\
+    statement: it is judged with --all.\n\n\
     To see it tested: Subscribe with a Subscription Identifier, and let the server\n\
     send a PUBLISH with DUP 0 that matches no filter which was asked for without\n\
     one. Look at retained messages too, and at a session that is resumed.\n\n\

@@ -1,6 +1,7 @@
-//! B08, B09, P02, R01 and R02: what is delivered, and the subscriptions that match it (MQTT 5.0,
-//! sections 3.3.1.3, 3.3.4, 3.8.4 and 4.8.2).
+//! B08, B09, P01, P02, R01 and R02: what is delivered, and the subscriptions that match it (MQTT
+//! 5.0, sections 3.3.1.3, 3.3.4, 3.8.4 and 4.8.2).
 ghost use Rattle.std.specs.Prelude.{◌≡◌, ◌&&◌, ◌||◌, nat_le, not, option_map, reverse};
+ghost use Rattle.std.specs.List.{list_any};
 ghost use Rattle.mq_rules.specs.Words.{is_some_and};
 ghost use Rattle.mq_rules.specs.Notes.{qos_number as number_of};
 ghost use Rattle.mq_rules.specs.Moments.{newest};
@@ -183,6 +184,65 @@ impl SessionStatement for SharedQos {
         before: &[Seen],
     ) -> Result<bool, Memory> {
         Ok(delivers_clearly::<SharedQos>(role, fate, event, before))
+    }
+
+    ghost says = { λ role. refl };
+}
+
+// ---- P01
+
+// Whether some subscription that matches a topic has this Subscription Identifier.
+fn is_named(role: Role, fate: Fate, topic: &str, identifier: u32, before: &[Seen]) -> bool
+    ensures { result ≡ matching.some_matching_after role fate (reverse before.now) topic.now (subscriptions.is_named identifier) }
+{
+    some_matching(role, fate, Kind::Named(identifier), topic, before)
+}
+
+// Whether one of these Subscription Identifiers is that of no subscription that matches a topic.
+fn has_strange(role: Role, fate: Fate, topic: &str, identifiers: &[u32], before: &[Seen]) -> bool
+    ensures { result ≡ list_any (λ i. not (matching.some_matching_after role fate (reverse before.now) topic.now (subscriptions.is_named i))) identifiers.now }
+{
+    identifiers.iter().any(|identifier| !is_named(role, fate, topic, *identifier, before))
+}
+
+/// P01: each Subscription Identifier of what is delivered is that of a subscription that matches, if
+/// one does.
+pub struct OwnIdentifiers;
+
+impl DeliveryTest for OwnIdentifiers {
+    ghost use Rattle.mq_plain.specs.Matching.{is_fault_P01};
+
+    ghost breaks_with = { is_fault_P01 };
+
+    fn is_broken_by(role: Role, fate: Fate, delivery: Delivery<'_>, before: &[Seen]) -> bool {
+        let identifiers = delivery.publish.subscription_identifiers.as_slice();
+        some_matching(role, fate, Kind::Any, delivery.topic, before)
+            && has_strange(role, fate, delivery.topic, identifiers, before)
+    }
+}
+
+impl SessionStatement for OwnIdentifiers {
+    ghost use Rattle.std.specs.Prelude.{refl};
+    ghost use Rattle.mq_rules.specs.declared.rule.Rule.TheVariants.{P01};
+    ghost use Rattle.mq_rules.specs.MatchingSubscriptions.{breaks_P01};
+
+    ghost judged = { P01 };
+
+    ghost breaks = { breaks_P01 };
+
+    fn rule() -> Rule {
+        Rule::P01
+    }
+
+    #[tactic(auto, unfolding(mq_rules::specs::MatchingSubscriptions::breaks_P01))]
+    fn is_broken(
+        _alloc: Global,
+        role: Role,
+        fate: Fate,
+        event: &Seen,
+        before: &[Seen],
+    ) -> Result<bool, Memory> {
+        Ok(delivers_clearly::<OwnIdentifiers>(role, fate, event, before))
     }
 
     ghost says = { λ role. refl };

@@ -300,7 +300,7 @@ fn is_wrong_subscribe(wishes: WishesNote, connack: ConnackNote) -> bool
     ensures { result ≡ errors.is_wrong_subscribe (Some connack) wishes }
 {
     wishes.has_no_local_share
-        || (wishes.has_subscription_identifier
+        || (wishes.subscription_identifier.is_some()
             && connack.subscription_identifier_available == Some(0))
 }
 

@@ -80,7 +80,9 @@ impl PastStatement for NoIdentifiers {
     #[tactic(auto, unfolding(mq_rules::specs::FurtherPasts::breaks_F03))]
     fn is_broken(_role: Role, event: &Seen, before: &[Seen]) -> bool {
         match event.note.sent_wishes() {
-            Some(wishes) => wishes.has_subscription_identifier && lacks_identifiers(before),
+            Some(wishes) => {
+                wishes.subscription_identifier.is_some() && lacks_identifiers(before)
+            }
             None => false,
         }
     }

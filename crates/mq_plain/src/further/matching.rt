@@ -29,8 +29,8 @@ pub struct Subscription<'a> {
     options: u8,
     /// The greatest QoS of what may be sent for it, 0 to 2.
     ceiling: u8,
-    /// Whether its SUBSCRIBE has a Subscription Identifier.
-    is_identified: bool,
+    /// The Subscription Identifier of its SUBSCRIBE, if that has one.
+    identifier: Option<u32>,
 }
 
 /// Kinds of subscriptions.
@@ -40,7 +40,9 @@ pub enum Kind {
     Any,
     /// Those for which a message of this QoS may be sent.
     Granted(u8),
-    /// Those without a Subscription Identifier.
+    /// Those with this Subscription Identifier.
+    Named(u32),
+    /// Those without one.
     Unidentified,
     /// Those for which what is sent may have RETAIN 1.
     Retained,
@@ -74,10 +76,10 @@ fn shared_filter(filter: &str) -> &str
     later_levels(later_levels(filter))
 }
 
-// What a filter of a SUBSCRIBE with or without a Subscription Identifier subscribes to, if this QoS
-// is granted.
-fn subscribed_to(identified: bool, asked: &NotedFilter, qos: u8) -> Subscription<'_>
-    ensures { matching.subscription_of result ≡ subscriptions.subscribed_to identified asked.now qos }
+// What a filter of a SUBSCRIBE with this Subscription Identifier, or without one, subscribes to, if
+// this QoS is granted.
+fn subscribed_to(identifier: Option<u32>, asked: &NotedFilter, qos: u8) -> Subscription<'_>
+    ensures { matching.subscription_of result ≡ subscriptions.subscribed_to identifier asked.now qos }
 {
     let filter = asked.filter.as_str();
     Subscription {
@@ -85,7 +87,7 @@ fn subscribed_to(identified: bool, asked: &NotedFilter, qos: u8) -> Subscription
         is_shared: is_share(filter),
         options: asked.options,
         ceiling: qos,
-        is_identified: identified,
+        identifier,
     }
 }
 
@@ -124,7 +126,8 @@ fn is_of_kind(kind: Kind, subscription: &Subscription<'_>) -> bool
     match kind {
         Kind::Any => true,
         Kind::Granted(qos) => qos <= subscription.ceiling,
-        Kind::Unidentified => !subscription.is_identified,
+        Kind::Named(identifier) => subscription.identifier == Some(identifier),
+        Kind::Unidentified => subscription.identifier.is_none(),
         Kind::Retained => may_be_retained(subscription),
         Kind::InVain => asks_in_vain(subscription),
     }
@@ -148,44 +151,45 @@ fn is_matched(kind: Kind, topic: &str, subscription: &Subscription<'_>) -> bool
 
 // ---- those of a SUBSCRIBE
 
-// Whether so is what a filter of a SUBSCRIBE subscribes to, given its Reason Code if there is one
-// (MQTT 5.0, section 3.9.3).
+// Whether what a filter of a SUBSCRIBE subscribes to matches the topic, and is of this kind, given
+// the filter's Reason Code if there is one (MQTT 5.0, section 3.9.3).
 fn is_matched_with(
     kind: Kind,
     topic: &str,
-    identified: bool,
+    identifier: Option<u32>,
     asked: &NotedFilter,
     code: Option<u8>,
 ) -> bool
-    ensures { result ≡ matching.is_matched_with kind topic.now identified asked.now code }
+    ensures { result ≡ matching.is_matched_with kind topic.now identifier asked.now code }
 {
     match code {
         Some(code) => {
-            code < REFUSING && is_matched(kind, topic, &subscribed_to(identified, asked, code))
+            code < REFUSING && is_matched(kind, topic, &subscribed_to(identifier, asked, code))
         }
         None => is_matched(
             kind,
             topic,
-            &subscribed_to(identified, asked, asked.options % 4),
+            &subscribed_to(identifier, asked, asked.options % 4),
         ),
     }
 }
 
-// Whether so is one of those that these filters subscribe to, given the Reason Codes of the SUBACK.
+// Whether one of the subscriptions to these filters does and is, given the Reason Codes of the
+// SUBACK.
 fn any_matched(
     kind: Kind,
     topic: &str,
-    identified: bool,
+    identifier: Option<u32>,
     asked: &[NotedFilter],
     codes: &[u8],
 ) -> bool
-    ensures { result ≡ list_any (matching.is_matched kind topic.now) (subscriptions.subscribed_by identified asked.now codes.now) }
+    ensures { result ≡ list_any (matching.is_matched kind topic.now) (subscriptions.subscribed_by identifier asked.now codes.now) }
 {
     let mut asked = asked;
     let mut codes = codes;
     while let Some((filter, next_asked)) = asked.split_first() {
         let (code, next_codes) = next_code(codes);
-        if is_matched_with(kind, topic, identified, filter, code) {
+        if is_matched_with(kind, topic, identifier, filter, code) {
             return true;
         }
         asked = next_asked;
@@ -209,7 +213,7 @@ fn has_matching(kind: Kind, topic: &str, asking: Found<'_>, before: &[Seen]) -> 
         ) => any_matched(
             kind,
             topic,
-            wishes.has_subscription_identifier,
+            wishes.subscription_identifier,
             filters.as_slice(),
             codes_answering(asking, before),
         ),

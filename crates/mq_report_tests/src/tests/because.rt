@@ -180,7 +180,7 @@ fn says_what_the_event_is_on_a_connection(rt: HostRuntime) {
 }
 
 // What is said of event 40, in a session.
-static IN_SESSIONS: [Said; 15] = [
+static IN_SESSIONS: [Said; 16] = [
     (Rule::S01, " (because of event 40: it holds the identifier)"),
     (
         Rule::S02,
@@ -218,6 +218,10 @@ static IN_SESSIONS: [Said; 15] = [
     ),
     (
         Rule::B09,
+        " (because of event 40: the SUBSCRIBE that matches)",
+    ),
+    (
+        Rule::P01,
         " (because of event 40: the SUBSCRIBE that matches)",
     ),
     (

@@ -104,6 +104,7 @@ pub fn line_of(rule: Rule) -> &'static str {
         Rule::B07 => "B07 sec-3.11.3 No UNSUBACK says that a filter was deleted which was never subscribed.",
         Rule::B08 => "B08 MQTT-3.3.2-3 A PUBLISH from the server matches a subscription, where some are shared.",
         Rule::B09 => "B09 MQTT-3.8.4-8,MQTT-4.8.2-3 A PUBLISH isn't at a QoS above what was granted, where some are shared.",
+        Rule::P01 => "P01 sec-3.3.4 A Subscription Identifier of a PUBLISH is that of a matching subscription.",
         Rule::P02 => "P02 MQTT-3.3.4-3 A PUBLISH has a Subscription Identifier, if each matching subscription has.",
         Rule::R01 => "R01 MQTT-3.3.1-11,MQTT-3.3.1-12 RETAIN is 0 where no matching subscription asks for anything else.",
         Rule::R02 => "R02 sec-4.8.2 No retained message is sent for a shared subscription.",

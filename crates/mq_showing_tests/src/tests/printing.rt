@@ -22,16 +22,16 @@ fn lists_the_statements(rt: HostRuntime) -> Result<(), Fail> {
         b"W01 both MQTT-2.1.3-1 The flags of a packet other than PUBLISH are those of its type.\n";
     for (words, lines) in [
         (&["mqjudge", "rules"][..], 74),
-        (&["mqjudge", "rules", "--all"][..], 99),
+        (&["mqjudge", "rules", "--all"][..], 100),
         (&["mqjudge", "rules", "--role", "client"][..], 54),
         (&["mqjudge", "rules", "--role", "server"][..], 64),
         (&["mqjudge", "rules", "--all", "--role", "client"][..], 64),
-        (&["mqjudge", "rules", "--all", "--role", "server"][..], 82),
-        (&["mqjudge", "rules", "--times"][..], 101),
+        (&["mqjudge", "rules", "--all", "--role", "server"][..], 83),
+        (&["mqjudge", "rules", "--times"][..], 102),
         (&["mqjudge", "rules", "--times", "--role", "client"][..], 65),
         (
             &["mqjudge", "rules", "--all", "--times", "--role", "server"][..],
-            83,
+            84,
         ),
     ] {
         assert!(rt; lists(rt.alloc(), words, lines, first)?, "{words:?}");
@@ -74,7 +74,7 @@ fn is_explained_by(alloc: Global, word: &str, codes: &[&str]) -> Result<bool, Fa
 
 #[test]
 fn explains_all_statements_with_a_citation(rt: HostRuntime) -> Result<(), Fail> {
-    let rows: [(&str, &[&str]); 12] = [
+    let rows: [(&str, &[&str]); 13] = [
         ("MQTT-4.4.0-1", &["S03", "S06"]),
         ("mqtt-4.4.0-1", &["S03", "S06"]),
         ("MQTT-2.2.1-5", &["E1A", "E2A", "E3A", "E4A"]),
@@ -87,6 +87,7 @@ fn explains_all_statements_with_a_citation(rt: HostRuntime) -> Result<(), Fail> 
         ("MQTT-3.3.2-3", &["B01", "B08"]),
         ("MQTT-3.8.4-8", &["B02", "B09"]),
         ("MQTT-3.3.1-12", &["R01"]),
+        ("sec-3.3.4", &["P01", "D05"]),
     ];
     for (word, codes) in rows {
         assert!(rt; is_explained_by(rt.alloc(), word, codes)?, "{word}");

@@ -1,5 +1,5 @@
 //! What the subscriptions that match the topic of a delivery say of it.
-ghost use Rattle.std.specs.Prelude.{◌≡◌, ◌&&◌, not};
+ghost use Rattle.std.specs.Prelude.{◌≡◌, ◌&&◌, not, nat_lt, length};
 ghost use Rattle.mq_rules.specs.Notes.{qos_number as number_of};
 ghost use Rattle.mq_subscriptions.specs.Verdicts as verdicts;
 ghost use Rattle.mq_subscriptions.specs.Verdicts.{sought_by};
@@ -16,6 +16,8 @@ pub struct Verdicts {
     pub matched: bool,
     /// B09.
     pub granted: bool,
+    /// P01.
+    pub named: bool,
     /// P02.
     pub identified: bool,
     /// R01.
@@ -31,6 +33,7 @@ pub fn nothing() -> Verdicts
     Verdicts {
         matched: false,
         granted: false,
+        named: false,
         identified: false,
         unretained: false,
         unshared: false,
@@ -38,10 +41,17 @@ pub fn nothing() -> Verdicts
 }
 
 // Whether some subscription matches, and each that does has a Subscription Identifier.
-fn are_named(found: &Matched) -> bool
-    ensures { result ≡ verdicts.are_named (sought_by found.now) }
+fn are_identified(found: &Matched) -> bool
+    ensures { result ≡ verdicts.are_identified (sought_by found.now) }
 {
     found.ceiling.is_some() && !found.unidentified
+}
+
+// Whether a PUBLISH has Subscription Identifiers.
+fn has_identifiers(publish: &PublishNote) -> bool
+    ensures { result ≡ nat_lt 0 (length publish.now.subscription_identifiers) }
+{
+    !publish.subscription_identifiers.as_slice().is_empty()
 }
 
 // Whether some matches, and none that does keeps the RETAIN flag or asks for retained messages.
@@ -67,18 +77,25 @@ fn is_above(found: &Matched, publish: &PublishNote) -> bool
 }
 
 // What a delivery breaks.
-fn broken_by(sharing: bool, takes: bool, publish: &PublishNote, found: &Matched) -> Verdicts
-    ensures { result ≡ verdicts.breaks_by sharing takes publish.now (sought_by found.now) }
+fn broken_by(
+    sharing: bool,
+    takes: bool,
+    publish: &PublishNote,
+    found: &Matched,
+    unnamed: bool,
+) -> Verdicts
+    ensures { result ≡ verdicts.breaks_by sharing takes publish.now (sought_by found.now) unnamed }
 {
-    let named = are_named(found);
+    let identified = are_identified(found);
     let plain = are_plain(found);
     let in_vain = are_in_vain(found);
     let above = is_above(found, publish);
-    let none = found.ceiling.is_none();
+    let some = found.ceiling.is_some();
     Verdicts {
-        matched: sharing && none,
+        matched: sharing && !some,
         granted: sharing && above,
-        identified: (takes && named) && !publish.has_subscription_identifier,
+        named: some && unnamed,
+        identified: (takes && identified) && !publish.has_subscription_identifier,
         unretained: plain && publish.retain,
         unshared: in_vain && publish.retain,
     }
@@ -88,32 +105,37 @@ fn broken_by(sharing: bool, takes: bool, publish: &PublishNote, found: &Matched)
 fn tested_by(sharing: bool, takes: bool, publish: &PublishNote, found: &Matched) -> Verdicts
     ensures { result ≡ verdicts.tests_by sharing takes publish.now (sought_by found.now) }
 {
-    let named = are_named(found);
+    let identified = are_identified(found);
     let plain = are_plain(found);
     let in_vain = are_in_vain(found);
+    let has_identifiers = has_identifiers(publish);
+    let some = found.ceiling.is_some();
     let acknowledged = is_acknowledged(publish.qos);
     Verdicts {
         matched: sharing,
         granted: sharing && acknowledged,
-        identified: takes && named,
+        named: has_identifiers && some,
+        identified: takes && identified,
         unretained: plain,
         unshared: in_vain,
     }
 }
 
 /// What a delivery puts to the test, or breaks, by the subscriptions that match its topic, where the
-/// session has a shared subscription or not, and the server takes Subscription Identifiers or not.
+/// session has a shared subscription or not, the server takes Subscription Identifiers or not, and
+/// one of those of the PUBLISH isn't that of such a subscription, or each is.
 pub fn verdicts_on(
     wide: bool,
     sharing: bool,
     takes: bool,
     publish: &PublishNote,
     found: &Matched,
+    unnamed: bool,
 ) -> Verdicts
-    ensures { result ≡ verdicts.verdicts wide sharing takes publish.now (sought_by found.now) }
+    ensures { result ≡ verdicts.verdicts wide sharing takes publish.now (sought_by found.now) unnamed }
 {
     if wide {
         return tested_by(sharing, takes, publish, found);
     }
-    broken_by(sharing, takes, publish, found)
+    broken_by(sharing, takes, publish, found, unnamed)
 }

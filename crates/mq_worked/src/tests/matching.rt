@@ -5,7 +5,7 @@ use mq_rules::Rule;
 use std::test::Fail;
 
 // A statement, the position at which a log breaks it, the one that decides that, and the log.
-static BROKEN: [(Rule, u32, u32, &str); 16] = [
+static BROKEN: [(Rule, u32, u32, &str); 23] = [
     // a filter that is shared, $share/g/a, and a PUBLISH on b
     (
         Rule::B08,
@@ -54,7 +54,56 @@ static BROKEN: [(Rule, u32, u32, &str); 16] = [
         8,
         "server OPEN <CONNECT-NAMED >CONNACK <8210000100000A2473686172652F672F6102 >SUBACK-1:1 <820700020000016102 >900400020000 >PUBLISH2:1",
     ),
-    // a Subscription Identifier, 1
+    // the Subscription Identifier 2, where 1 was asked for
+    (
+        Rule::P01,
+        6,
+        6,
+        "server OPEN <CONNECT-NAMED >CONNACK <82090001020B0100016102 >SUBACK:1 >3007000161020B0278",
+    ),
+    // before the CONNACK, which decides it
+    (
+        Rule::P01,
+        4,
+        5,
+        "server OPEN <CONNECT-NAMED <82090001020B0100016102 >3007000161020B0278 >CONNACK",
+    ),
+    // both of them
+    (
+        Rule::P01,
+        6,
+        6,
+        "server OPEN <CONNECT-NAMED >CONNACK <82090001020B0100016102 >SUBACK:1 >3009000161040B010B0278",
+    ),
+    // that of a filter that doesn't match
+    (
+        Rule::P01,
+        8,
+        8,
+        "server OPEN <CONNECT-NAMED >CONNACK <82090001020B0100016102 >SUBACK:1 <82090002020B0200016202 >900400020002 >3007000161020B0278",
+    ),
+    // that of a filter that was refused
+    (
+        Rule::P01,
+        8,
+        8,
+        "server OPEN <CONNECT-NAMED >CONNACK <82090001020B0100016102 >SUBACK:1 <82090002020B0200012302 >900400020080 >3007000161020B0278",
+    ),
+    // none was asked for
+    (
+        Rule::P01,
+        6,
+        6,
+        "server OPEN <CONNECT-NAMED >CONNACK <SUBSCRIBE:1 >SUBACK:1 >3007000161020B0178",
+    ),
+    // that of the session before
+    (
+        Rule::P01,
+        12,
+        12,
+        "server OPEN <CONNECT-KEPT >CONNACK <82090001020B0100016102 >SUBACK:1 CLOSE OPEN <CONNECT-NAMED >CONNACK <SUBSCRIBE:1 >SUBACK:1 >3007000161020B0178",
+    ),
+    // none, where 1 was asked for
     (
         Rule::P02,
         6,
@@ -118,7 +167,7 @@ static BROKEN: [(Rule, u32, u32, &str); 16] = [
 ];
 
 // Logs that put such a statement to the test, or nearly do, and keep it.
-static KEPT: [&str; 19] = [
+static KEPT: [&str; 28] = [
     // the filter after the ShareName, before the SUBACK and after it
     "server OPEN <CONNECT-NAMED >CONNACK <8210000100000A2473686172652F672F6102 >PUBLISH0 >SUBACK:1 >PUBLISH0",
     // the filter's own text
@@ -137,8 +186,26 @@ static KEPT: [&str; 19] = [
     "server OPEN <CONNECT-NAMED >CONNACK <8210000100000A2473686172652F672F6102 >SUBACK-0:1 <820700020000016101 >900400020001 >PUBLISH1:1",
     // the SUBACK answers the first of two under the identifier, which isn't shared
     "server OPEN <CONNECT-NAMED >CONNACK <SUBSCRIBE:1 <8210000100000A2473686172652F672F6102 >SUBACK-0:1 >PUBLISH2:1",
-    // with a Subscription Identifier
+    // with the Subscription Identifier that was asked for
     "server OPEN <CONNECT-NAMED >CONNACK <82090001020B0100016102 >SUBACK:1 >3007000161020B0178",
+    // before the SUBACK
+    "server OPEN <CONNECT-NAMED >CONNACK <82090001020B0100016102 >3007000161020B0178 >SUBACK:1",
+    // those of two that overlap
+    "server OPEN <CONNECT-NAMED >CONNACK <82090001020B0100016102 >SUBACK:1 <82090002020B0200012302 >900400020002 >3009000161040B010B0278",
+    // one that was asked for with two identifiers, one after the other
+    "server OPEN <CONNECT-NAMED >CONNACK <82090001020B0100016102 >SUBACK:1 <82090001020B0200016102 >SUBACK:1 >3007000161020B0178 >3007000161020B0278",
+    // that of one that was given up
+    "server OPEN <CONNECT-NAMED >CONNACK <82090001020B0100016102 >SUBACK:1 <UNSUBSCRIBE:1 >UNSUBACK:1 >3007000161020B0178",
+    // that of a shared one
+    "server OPEN <CONNECT-NAMED >CONNACK <82120001020B01000A2473686172652F672F6102 >SUBACK:1 >3007000161020B0178",
+    // the session goes on
+    "server OPEN <CONNECT-KEPT >CONNACK <82090001020B0100016102 >SUBACK:1 CLOSE OPEN <RECONNECT >CONNACK-RESUMED >3007000161020B0178",
+    // another identifier, and none matches
+    "server OPEN <CONNECT-NAMED >CONNACK <82090001020B0100016102 >SUBACK:1 >3007000162020B0278",
+    // sent again
+    "server OPEN <CONNECT-NAMED >CONNACK <82090001020B0100016102 >SUBACK:1 >3A090001610001020B0278",
+    // after a SUBSCRIBE without filters
+    "server OPEN <CONNECT-NAMED >CONNACK <8203000200 <82090001020B0100016102 >SUBACK:1 >3007000161020B0278",
     // one that matches has none
     "server OPEN <CONNECT-NAMED >CONNACK <82090001020B0100016102 >SUBACK:1 <820700020000012302 >900400020002 >PUBLISH0",
     // Subscription Identifier Available is 0

@@ -6,7 +6,7 @@ use Rattle.mq_plain.proofs.further.matching.any_matched.Given as goal
 
 -- the filters and Reason Codes that are left decide
 abbrev pub invariant-loop-filter : goal.invariant-loop-filter
-invariant-loop-filter l = list_any (is_matched l.kind l.topic) (subscribed_by l.identified l.asked l.codes) ≡ list_any (is_matched l.kind l.topic) (subscribed_by l.identified l.fn.asked l.fn.codes)
+invariant-loop-filter l = list_any (is_matched l.kind l.topic) (subscribed_by l.identifier l.asked l.codes) ≡ list_any (is_matched l.kind l.topic) (subscribed_by l.identifier l.fn.asked l.fn.codes)
 
 abbrev pub decreases-loop-filter : goal.decreases-loop-filter
 decreases-loop-filter l = length l.asked

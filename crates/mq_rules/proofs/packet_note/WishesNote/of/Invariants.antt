@@ -5,4 +5,4 @@ use Rattle.mq_rules.proofs.packet_note.WishesNote.of.Given as goal
 
 -- what was asked for, and what the filters that are left ask for, is all of it
 abbrev pub invariant-loop-filter : goal.invariant-loop-filter
-invariant-loop-filter l = wishes_with_all l.wishes l.filter-iterator ≡ wishes_of l.fn.identified l.fn.filters
+invariant-loop-filter l = wishes_with_all l.wishes l.filter-iterator ≡ wishes_of l.fn.identifier l.fn.filters

@@ -3,7 +3,7 @@ use Rattle.indexmap.specs.IndexMap.{get}
 use Rattle.mq_rules.specs.declared.packet_note.PublishNote.{PublishNote}
 use Rattle.mq_rules.specs.Connections.{accepts}
 use Rattle.mq_subscriptions.specs.declared.matching.verdicts.Verdicts.{Verdicts}
-use Rattle.mq_subscriptions.specs.Verdicts.{nothing, of_note, sought_of, takes_by, verdicts}
+use Rattle.mq_subscriptions.specs.Verdicts.{nothing, of_note, said_of, takes_by}
 use Rattle.mq_subscriptions.proofs.matching.Matching.judge.Goals as goal
 
 pub returns : goal.returns
@@ -12,7 +12,7 @@ returns c = λ matching premise.
     let bound : s.bound ≡ true = search rules in
     let accepted : accepts c.args.fate ≡ true = search rules in
     let clear : s.unclear ≡ false = search rules in
-    let inner : Verdicts = of_note (λ (p : PublishNote) (topic : List ℕ). verdicts c.args.wide s.sharing (takes_by s.refusing) p (sought_of (matching topic))) (get nat_eq s.topics) c.args.note.now in
+    let inner : Verdicts = of_note (λ (p : PublishNote) (topic : List ℕ). said_of c.args.wide s.sharing (takes_by s.refusing) p (matching topic)) (get nat_eq s.topics) c.args.note.now in
     c.judge_note.ensures matching (premise bound accepted)
     ∙ sym (
     ap (λ b. cond b (cond (accepts c.args.fate) (cond s.unclear nothing inner) nothing) nothing) bound

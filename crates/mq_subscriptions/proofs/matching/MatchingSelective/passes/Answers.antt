@@ -4,7 +4,7 @@ use Rattle.mq_rules.specs.Under.{turns_with}
 use Rattle.mq_subscriptions.specs.declared.matching.verdicts.Verdicts.{Verdicts}
 use Rattle.mq_subscriptions.specs.Verdicts.{nothing, Blames}
 use Rattle.mq_subscriptions.proofs.BesideLaws.{beside-next, idle-judged, idle-beside, idle-takes, idle-event}
-use Rattle.mq_subscriptions.proofs.BlamingLaws.{gains-five}
+use Rattle.mq_subscriptions.proofs.BlamingLaws.{gains-six}
 use Rattle.mq_subscriptions.proofs.MatchingLaws.{subscriptions-next}
 use Rattle.mq_subscriptions.proofs.VerdictLaws.{blames, say}
 use Rattle.mq_subscriptions.proofs.matching.MatchingSelective.passes.Goals as goal
@@ -24,7 +24,7 @@ returns c = λ tested fate at e past h under q.
               beside-next tested fate e past on s.sharing s.sharing s.unclear s.unclear s.refusing s.refusing topics topics (idle-beside fate e.note idle s.sharing s.unclear s.refusing topics) (q.2 is).1,
             ),
       );
-      shows = λ m. gains-five (λ k r. turns_with tested fate e past k r) nothing e.place at tested (e ∷ past)
+      shows = λ m. gains-six (λ k r. turns_with tested fate e past k r) nothing e.place at tested (e ∷ past)
           (subst (λ (v : Verdicts). Blames (λ k r. turns_with tested fate e past k r) v e.place at tested (e ∷ past))
           (sym (idle-event s.bound fate s.unclear (say tested fate s.subscriptions s.sharing s.unclear s.refusing topics e past on false) topics e.note (idle-judged tested e.note s.bound h q.0)))
           (blames tested fate s.subscriptions s.sharing s.unclear s.refusing topics e past on s.bound q.0 (λ is. (q.2 is).1) at under)) m;
