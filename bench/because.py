@@ -478,7 +478,7 @@ def deletes_what_never_was(log: Log, k: int) -> Evidence:
 by_itself("", "B08")
 
 
-@says("B09", "P02", "R01", "R02")
+@says("B09", "P01", "P02", "R01", "R02")
 def is_matched_in_vain(log: Log, k: int) -> Evidence:
     """The last SUBSCRIBE with a filter that matches, refused or not."""
     topic = topic_of(log, k)

@@ -146,7 +146,7 @@ def delivering() -> bytes:
     for request in ("SUBSCRIBE-7:1", "SUBSCRIBE-RETAINED-2:1", "82090001020B0700016122", "SHARE:1", "SHARE-RETAINED-2:1", shared):
         words += ["OPEN", "<CONNECT-NAMED", ">CONNACK", f"<{request}", ">PUBLISH0", ">SUBACK-0:1", ">PUBLISH0-RETAINED"]
         words += [">PUBLISH1-RETAINED:1", ">PUBLISH0-7", ">PUBLISH0-B", ">PUBLISH0-SHARE", "<SUBSCRIBE-ALL:2", ">SUBACK:2", ">PUBLISH0-B"]
-        words += [">PUBLISH0-RETAINED", "CLOSE"]
+        words += [">PUBLISH0-RETAINED", ">PUBLISH0-B-7", ">PUBLISH0-7-8", "<SUBSCRIBE-8:2", ">PUBLISH0-7-8", "CLOSE"]
     return check_rows.log_of("server " + " ".join(words), names)
 
 

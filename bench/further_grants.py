@@ -4,8 +4,8 @@ what comes by its subscriptions (B08 to B11, P, R). They are judged where the se
 After bytes in a session that may have been a SUBSCRIBE or an UNSUBSCRIBE nobody can tell from the log what is subscribed: those that
 break a rule may have been taken in all the same, or in part. From there on nothing is said of the session but by B05.
 
-For B08, B09, P02, R01 and R02 each subscription of a session counts to its end, unless a SUBACK refused it: what was chosen while it
-stood may come at any time later. B10, B11 and P01 look at when one ends (`is_live`).
+For B08, B09, P01, P02, R01 and R02 each subscription of a session counts to its end, unless a SUBACK refused it: what was chosen while
+it stood may come at any time later. B10 and B11 look at when one ends (`is_live`).
 """
 from collections.abc import Callable
 from dataclasses import dataclass
@@ -193,26 +193,6 @@ def delivers_above(log: Log, k: int) -> bool:
     return has_shares(log, k) and bool(matching(log, k)) and not reaches(matching(log, k), log, k)
 
 
-@applies("B10", "B11")
-@of_deliveries
-def delivers_for_an_ended_one(log: Log, k: int, p: Packet) -> bool:
-    """A delivery that some subscription matches which was ended."""
-    return any(is_ended(log, k, one) for one in matching(log, k))
-
-
-@fails("B10", sent([PUBLISH]))
-@of_deliveries
-def delivers_for_none(log: Log, k: int, p: Packet) -> bool:
-    return bool(matching(log, k)) and not live(log, k)
-
-
-@fails("B11", sent([PUBLISH]))
-@of_deliveries
-def delivers_by_an_old_qos(log: Log, k: int, p: Packet) -> bool:
-    alive = live(log, k)
-    return not reaches(alive, log, k) and reaches([one for one in matching(log, k) if one not in alive], log, k)
-
-
 def identifiers(p: Packet) -> list[object]:
     return [value for kind, value in p.properties if kind == SUBSCRIPTION_IDENTIFIER]
 
@@ -228,8 +208,8 @@ def names_subscriptions(log: Log, k: int, p: Packet) -> bool:
 def names_a_foreign_one(log: Log, k: int) -> bool:
     if not names_subscriptions(log, k):
         return False
-    known = [one.identifier for one in live(log, k)]
-    return any(identifier not in known for identifier in identifiers(log.sent_packet(k)))
+    given = [one.identifier for one in matching(log, k)]
+    return any(identifier not in given for identifier in identifiers(log.sent_packet(k)))
 
 
 @applies("P02")
@@ -274,6 +254,26 @@ def gives_to_a_share(log: Log, k: int, p: Packet) -> bool:
 @fails("R02", sent([PUBLISH]))
 def retains_for_a_share(log: Log, k: int) -> bool:
     return gives_to_a_share(log, k) and log.sent_packet(k).retain
+
+
+@applies("B10", "B11")
+@of_deliveries
+def delivers_for_an_ended_one(log: Log, k: int, p: Packet) -> bool:
+    """A delivery that some subscription matches which was ended."""
+    return any(is_ended(log, k, one) for one in matching(log, k))
+
+
+@fails("B10", sent([PUBLISH]))
+@of_deliveries
+def delivers_for_none(log: Log, k: int, p: Packet) -> bool:
+    return bool(matching(log, k)) and not live(log, k)
+
+
+@fails("B11", sent([PUBLISH]))
+@of_deliveries
+def delivers_by_an_old_qos(log: Log, k: int, p: Packet) -> bool:
+    alive = live(log, k)
+    return not reaches(alive, log, k) and reaches([one for one in matching(log, k) if one not in alive], log, k)
 
 
 # ---- answers: each place of one, with what it is said of

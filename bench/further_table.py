@@ -1,5 +1,5 @@
 """The thirty further statements, in the order of reports: code, citations, and what each says; where its words are kept; and which of
-them the program judges, on request: all but B10, B11 and P01 if it is asked by `--all`, and those on times too if by `--times`.
+them the program judges, on request: all but B10 and B11 if it is asked by `--all`, and those on times too if by `--times`.
 
 They are a part of the second opinion that further.py gives, and no part of the program. Each was written from the words of
 docs/DECISIONS.md and of the standard, before the program judged any. Like those of statements.py they look at the whole log for
@@ -21,12 +21,12 @@ B06 - MQTT-3.10.4-1 No UNSUBACK says of a subscription that it doesn't exist
 B07 - sec-3.11.3 No UNSUBACK says that a filter was deleted which was never subscribed
 B08 - MQTT-3.3.2-3 A PUBLISH from the server matches a subscription, where some are shared
 B09 - MQTT-3.8.4-8,MQTT-4.8.2-3 A PUBLISH isn't at a QoS above what was granted, where some are shared
+P01 - sec-3.3.4 A Subscription Identifier of a PUBLISH is that of a matching subscription
 P02 - MQTT-3.3.4-3 A PUBLISH has a Subscription Identifier, if each matching subscription has
 R01 - MQTT-3.3.1-11,MQTT-3.3.1-12 RETAIN is 0 where no matching subscription asks for anything else
 R02 - sec-4.8.2 No retained message is sent for a shared subscription
 B10 - MQTT-3.10.4-2 Nothing comes for a filter that was unsubscribed before a REST
 B11 - MQTT-3.8.4-3 The QoS of a subscription that was replaced holds no longer
-P01 - sec-3.3.4 A Subscription Identifier is that of a matching subscription
 F01 MQTT-3.2.2-14 - A new PUBLISH has RETAIN 0 where Retain Available is 0
 F02 sec-3.2.2.3.11 - No filter has a wildcard where the server takes none
 F03 sec-3.2.2.3.12 - No SUBSCRIBE has a Subscription Identifier where the server takes none
@@ -55,7 +55,7 @@ for line in SHAPES.strip().split("\n"):
     SENTENCES[code] = sentence
 TIMED = ("K01", "K02")  # that look at moments
 ALWAYS, ALL, TIMES = "", "--all", "--times"  # how much the program is asked for: by no option, or by one of these
-UNTIMED = tuple("B05 B06 B07 B08 B09 P02 R01 R02 F01 F02 F03 F04 F05 F06 V03 V04 V06 C24 D01 D02 D03 D05 A01 A02 A03".split())
+UNTIMED = tuple("B05 B06 B07 B08 B09 P01 P02 R01 R02 F01 F02 F03 F04 F05 F06 V03 V04 V06 C24 D01 D02 D03 D05 A01 A02 A03".split())
 # Those that the program judges too, by the option that asks for them; and all of them.
 ASKED: dict[str, tuple[str, ...]] = {ALWAYS: (), ALL: UNTIMED, TIMES: (*UNTIMED, *TIMED)}
 JUDGED = ASKED[TIMES]

@@ -323,6 +323,7 @@ FLAWS = {
     "a further fault at another place": (r"s/^fault \([0-9]*\) A02 /fault \11 A02 /", 120),
     "a place of a further statement too many": (r"s/^\(tested F06 .* places\) 0$/\1 1/", 40),
     "a further fault's event": (r"s/^\(because .* A02 event\) 2$/\1 1/", 120),
+    "a foreign Subscription Identifier that isn't reported": ("/^fault .* P01 /d", 120),
     "a silence that isn't reported": ("/^fault .* K0[12] /d", 160),
     "a silence of another length": (r"s/^\(because .* K0[12] .* numbers \)/\11/", 120),
     "a place of a statement on times too many": (r"s/^\(tested K0[12] .* places\) 0$/\1 1/", 60),

@@ -49,7 +49,7 @@ class Message:
     retain: bool = False
     size: int = 0  # of the first PUBLISH, in bytes
     is_received: bool = False
-    number: int | None = None  # the Subscription Identifier
+    numbers: tuple[int, ...] = ()  # the Subscription Identifiers
 
 
 @dataclass
@@ -465,7 +465,8 @@ class Honest:
             return None
         retain = (one.may_retain() if one else limits.retains) and self.chance(0.4)
         topic = self.draw.choice(one.topics() if one else TOPICS)
-        return Message(identifier if qos > 0 else 0, qos, topic, retain, number=one.number if one else None)
+        numbers = self.state.subscribed.numbers(self.draw, one, topic) if one else ()
+        return Message(identifier if qos > 0 else 0, qos, topic, retain, numbers=numbers)
 
     def _publish(self) -> None:
         message = self._next_message()
@@ -491,8 +492,7 @@ class Honest:
 
     def _publish_packet(self, message: Message, topic: str, alias: bytes = b"", dup: bool = False) -> bytes:
         properties = alias + (b"\1\1" if self.chance(0.1) else b"") + (b"\2\0\0\0\x3c" if self.chance(0.1) else b"")
-        has_number = message.number is not None and self.line.takes_numbers
-        properties += b"\x0b" + varint(message.number) if has_number else b""
+        properties += b"".join(b"\x0b" + varint(one) for one in message.numbers if self.line.takes_numbers)
         length = 1 if self.line.limits.size else 300 if "size" in self.bounds and self.chance(0.6) else self.draw.choice(PAYLOADS)
         identifier = number(message.identifier) if message.qos else b""
         return packet(0x30 | dup << 3 | message.qos << 1 | message.retain, text(topic) + identifier + listed(properties) + b"x" * length)
@@ -670,7 +670,7 @@ class Honest:
             return [Subscription(one) for one in names]
         manner = self.manner if limits.shares else replace(self.manner, shares=0)
         is_numbered = limits.identifiers and (self.role == CLIENT or self.line.takes_numbers) and self.chance(manner.numbers)
-        identifier = self.draw.choice((7, 7, 300)) if is_numbered else None
+        identifier = self.draw.choice((7, 7, 8, 9, 300)) if is_numbered else None
         return [asked(self.draw, one, manner, identifier, may_exclude=self.role == CLIENT) for one in names]
 
     def _reply(self, say, kind: Type, identifier: int) -> None:

@@ -189,11 +189,12 @@ def change_unsuback(draw: random.Random, parts: Parts) -> None:
 
 
 def change_publishes(draw: random.Random, parts: Parts) -> None:
-    """Some PUBLISHes that are sent have RETAIN 1, or no Subscription Identifier any more, or QoS 2 in place of 1, or another topic."""
+    """Some PUBLISHes that are sent have RETAIN 1, or no Subscription Identifier any more, or another one, or one more, or QoS 2 in place of
+    1, or another topic."""
     places = [n for n, part in enumerate(parts) if part[0] == SENT and len(part) > 9 and part[5] >> 4 == 3 and part[6] < 0x80]
     for at in draw.sample(places, min(len(places), 3)):
         body = bytearray(parts[at][5:])
-        match draw.randrange(4):
+        match draw.randrange(6):
             case 0:
                 body[0] |= 1
             case 1:
@@ -202,14 +203,34 @@ def change_publishes(draw: random.Random, parts: Parts) -> None:
                 body[0] ^= 0x06
             case 3 if body[2:4] != b"\0\0":
                 body[4:5] = draw.choice((b"b", b"y"))
+            case 4:
+                leave_out_number(body)
+                put_number(draw, body)
+            case 5:
+                put_number(draw, body)
         parts[at] = record(SENT, bytes(body))
+
+
+def properties_of(body: bytearray) -> tuple[int, int]:
+    """Where the Property Length of a PUBLISH is, and where its properties end; nothing if it hasn't got them all."""
+    at = 4 + int.from_bytes(body[2:4], "big") + 2 * bool(body[0] & 0x06)
+    end = at + 1 + body[at] if at < len(body) else 0
+    return (at, end) if end <= len(body) else (0, 0)
+
+
+def put_number(draw: random.Random, body: bytearray) -> None:
+    """Puts a Subscription Identifier behind the properties of a PUBLISH."""
+    at, end = properties_of(body)
+    if end and max(body[at], body[1]) + 2 < 0x80:
+        body[end:end] = bytes([0x0B, draw.choice((7, 8, 9))])
+        body[at] += 2
+        body[1] += 2
 
 
 def leave_out_number(body: bytearray) -> None:
     """Takes a Subscription Identifier of one byte out of a PUBLISH, if that is its last property."""
-    at = 4 + int.from_bytes(body[2:4], "big") + 2 * bool(body[0] & 0x06)
-    end = at + 1 + body[at] if at < len(body) else 0
-    if body[end - 2 : end - 1] == b"\x0b" and end <= len(body):
+    at, end = properties_of(body)
+    if end and body[end - 2 : end - 1] == b"\x0b" and body[at] >= 2:
         del body[end - 2 : end]
         body[at] -= 2
         body[1] -= 2

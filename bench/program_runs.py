@@ -175,7 +175,7 @@ CODES = (
     + "E1A E1R E1O E2A E2R E2O E3A E3R E3O E4A E4R E5A E5R E6A E6R E7R L1 L2 L3 B01 B02 B03 B04".split()
 )
 # Those that are judged only on request, and named all the same.
-FURTHER = "B05 B06 B07 B08 B09 P02 R01 R02 F01 F02 F03 F04 F05 F06 V03 V04 V06 C24 D01 D02 D03 D05 A01 A02 A03".split()
+FURTHER = "B05 B06 B07 B08 B09 P01 P02 R01 R02 F01 F02 F03 F04 F05 F06 V03 V04 V06 C24 D01 D02 D03 D05 A01 A02 A03".split()
 ON_TIMES = ["K01", "K02"]
 FURTHER_ROWS = """\
 B05 server sec-3.9.3 A SUBACK grants no more than was asked for.
@@ -183,6 +183,7 @@ B06 server MQTT-3.10.4-1 No UNSUBACK says of a subscription that it doesn't exis
 B07 server sec-3.11.3 No UNSUBACK says that a filter was deleted which was never subscribed.
 B08 server MQTT-3.3.2-3 A PUBLISH from the server matches a subscription, where some are shared.
 B09 server MQTT-3.8.4-8,MQTT-4.8.2-3 A PUBLISH isn't at a QoS above what was granted, where some are shared.
+P01 server sec-3.3.4 A Subscription Identifier of a PUBLISH is that of a matching subscription.
 P02 server MQTT-3.3.4-3 A PUBLISH has a Subscription Identifier, if each matching subscription has.
 R01 server MQTT-3.3.1-11,MQTT-3.3.1-12 RETAIN is 0 where no matching subscription asks for anything else.
 R02 server sec-4.8.2 No retained message is sent for a shared subscription.

@@ -110,7 +110,9 @@ OF_CONNACK: Choices = ((b"\x12\0\1c",), (b"\x1a\0\1i",), RECEIVE_MAXIMUM, TOPIC_
 AUTHENTICATION_METHOD = (b"\x15\0\1m", b"\x15\0\1m", b"\x15\0\1n")
 # What a tested client's server hasn't got, besides: Wildcard Subscription, Subscription Identifier and Shared Subscription Available.
 LACKS: Choices = ((b"\x28\0", b"\x28\1"), (b"\x29\0", b"\x29\1"), (b"\x2a\0", b"\x2a\1"))
-SUBSCRIPTION_IDENTIFIER = (b"\x0b\7",)
+# Subscription Identifiers, which SUBSCRIBEs have; and those that PUBLISHes have, one of which was never given.
+SUBSCRIPTION_IDENTIFIER = (b"\x0b\7", b"\x0b\7", b"\x0b\x80\1")
+OF_DELIVERIES = (*SUBSCRIPTION_IDENTIFIER, b"\x0b\x08")
 LEAVING = (0x00, 0x00, 0x04, 0x80, 0x8C, 0x8E, 0x98, 0x9D)  # Reason Codes of a DISCONNECT; either end may not send all of them
 BOUNDS: Choices = (MAXIMUM_QOS, RETAIN_AVAILABLE, RETAIN_AVAILABLE, MAXIMUM_PACKET_SIZE)  # a CONNACK has at most one of them
 EXPIRY_OF_MESSAGE, TOPIC_ALIAS = (b"\2\0\0\0\x3c",), (b"\x23\0\1", b"\x23\0\2")
@@ -445,7 +447,9 @@ class Session:
             if qos == 2 and peer == self.role and not dup:
                 self.to_release.append(identifier)
         likely = max(0.12, self.numbers / 2) if end == self.role == SERVER else 0.12
-        properties = listed(self._chosen(0.12, EXPIRY_OF_MESSAGE) + self._chosen(likely, SUBSCRIPTION_IDENTIFIER) + self._chosen(0.12, TOPIC_ALIAS))
+        numbers = self._chosen(likely, OF_DELIVERIES)
+        numbers += self._chosen(0.3, OF_DELIVERIES) if numbers else b""
+        properties = listed(self._chosen(0.12, EXPIRY_OF_MESSAGE) + numbers + self._chosen(0.12, TOPIC_ALIAS))
         has_alias = properties[-3:-1] == b"\x23\0"  # the Topic Alias is the last property
         topic = "" if has_alias and self.chance(0.5) else self.draw.choice(TOPICS)
         body = text(topic) + (number(identifier) if qos > 0 else b"") + properties + b"x"

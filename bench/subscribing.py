@@ -92,6 +92,13 @@ class Subscribed:
         elif self.wanted.get(one.filter) is request:
             self.standing[one.filter] = replace(one, qos=code, is_granted=True)
 
+    def numbers(self, draw: random.Random, one: Subscription, topic: str) -> tuple[int, ...]:
+        """The Subscription Identifiers of a message on a topic, which is sent for a subscription: its own, and mostly those of the
+        others that match too."""
+        others = [other for other in self.standing.values() if topic in other.topics()] if draw.random() < 0.8 else []
+        found = {each.number for each in (one, *others)} - {None}
+        return tuple(draw.sample(sorted(found), len(found)))
+
     def some(self, draw: random.Random) -> Subscription | None:
         """One for which there is a message: at times one that has ended, for what was on its way by then."""
         found = self.past if self.past and draw.random() < 0.15 else list(self.standing.values())

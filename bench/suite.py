@@ -64,9 +64,9 @@ to the test, and they differ in one record. Each log has its exact report beside
 | `CODE-broken.json`, `CODE-kept.json` | the same as one line of JSON: what `mqjudge check --json FILE` prints |
 | `CODE-broken.places`, `CODE-kept.places` | the report with what was tested: what `mqjudge check --coverage FILE` prints |
 
-B05 to B09, P02, R01, R02, F01 to F06, V03, V04, V06, C24, D01 to D03, D05, A01 to A03, K01 and K02
-are further statements, which are judged only on request: each of these commands has `--all` too,
-and the reports of these logs are what it prints then. K01 and K02 are on times: there it has
+B05 to B09, P01, P02, R01, R02, F01 to F06, V03, V04, V06, C24, D01 to D03, D05, A01 to A03, K01 and
+K02 are further statements, which are judged only on request: each of these commands has `--all`
+too, and the reports of these logs are what it prints then. K01 and K02 are on times: there it has
 `--times`.
 
 Each broken log has one fault, that of its statement, and each kept log passes. All packets are

@@ -222,6 +222,11 @@ def subscribe(i: int, *asked: bytes | int, identifier: int | None = None) -> Pac
     return packet(SUBSCRIBE, identifier=i, filters=filters, properties=given(identifier=identifier))
 
 
+def named(item: Packet, numbers: list[int]) -> Packet:
+    """The packet with these Subscription Identifiers."""
+    return replace(item, properties=[*item.properties, *((IDENTIFIERS["identifier"], number) for number in numbers)])
+
+
 def sends(item: Packet | Bad | Lost) -> Event:
     return Event(SENT, 0, item)
 
@@ -292,7 +297,7 @@ WORDS: dict[str, Callable] = {
     "retained_exactly": lambda i: publish(2, i, retain=True),
     "expiring": lambda i: publish(2, i, message_expiry=60),
     "aliased": lambda topic, alias: publish(0, None, topic=bytes(topic), alias=alias),
-    "subscribed": lambda: replace(publish(0, None), properties=[(0x0B, 7)]),
+    "subscribed": lambda: named(publish(0, None), [1]),
     "asks_a": asks(b"a"),
     "asks_b": asks(b"b"),
     "asks_both": lambda i, *options: packet(SUBSCRIBE, identifier=i, filters=list(zip((b"a", b"b"), options))),
@@ -304,18 +309,23 @@ WORDS: dict[str, Callable] = {
     "asks_shared": asks(b"$share/g/a"),
     "asks_plainly": lambda: asks(b"a")(1),
     "asks_widely": lambda: asks(b"#")(1),
-    "asks_identified": lambda: replace(asks(b"a")(1), properties=[(0x0B, 7)]),
+    "asks_identified": lambda: named(asks(b"a")(1), [1]),
     "asks_to_share": lambda: asks(b"$share/g/a")(1),
     "asks_misnamed": lambda: asks(b"$share/+/a")(1),
     "asks_no_local": lambda: asks(b"$share/g/a")(1, 4),
     "codes": lambda text: text,
     "asks": lambda i, filter, options: subscribe(i, filter, options),
     "asks_two": lambda i, filter, options, other, more: subscribe(i, filter, options, other, more),
-    "asks_with_identifier": lambda i, filter, options: subscribe(i, filter, options, identifier=7),
-    "asks_two_with_identifier": lambda i, filter, options, other, more: subscribe(i, filter, options, other, more, identifier=7),
+    "asks_with_identifier": lambda i, filter, options: subscribe(i, filter, options, identifier=1),
+    "asks_two_with_identifier": lambda i, filter, options, other, more: subscribe(i, filter, options, other, more, identifier=1),
+    "asks_named": lambda number, i, filter, options: subscribe(i, filter, options, identifier=number),
+    "asks_two_named": lambda number, i, filter, options, other, more: subscribe(i, filter, options, other, more, identifier=number),
     "removes": lambda i, filter: removes(filter)(i),
     "delivers": lambda topic: publish(0, None, topic=topic),
     "delivers_retained": lambda topic: publish(0, None, topic=topic, retain=True),
+    "delivers_for": lambda topic, numbers: named(publish(0, None, topic=topic), numbers),
+    "delivers_once_for": lambda dup, topic, numbers: named(publish(1, 1, dup, topic), numbers),
+    "aliased_for": lambda topic, alias, numbers: named(publish(0, None, topic=bytes(topic), alias=alias), numbers),
     "resuming_without_identifiers": lambda: connack(True, identifiers=0),
     "Puback": acknowledges(PUBACK),
     "Pubrec": acknowledges(PUBREC),

@@ -559,6 +559,14 @@ def of_matching() -> Iterator[Plant]:
         yield Plant(f"B08-{name}", "B08", only, other)
     for name, only in {"granted": "shared-granted-1", "overlap": "shared-overlap"}.items():
         yield Plant(f"B09-{name}", "B09", only, above)
+    misnumbered: Change = on(Type.PUBLISH, lambda got, _: republish(
+        got, without=Prop.SUBSCRIPTION_IDENTIFIER, more=[(Prop.SUBSCRIPTION_IDENTIFIER, 77)])
+        if got.has(Prop.SUBSCRIPTION_IDENTIFIER) else None)
+    one_more: Change = on(Type.PUBLISH, lambda got, _: republish(
+        got, more=[(Prop.SUBSCRIPTION_IDENTIFIER, 77)]) if got.has(Prop.SUBSCRIPTION_IDENTIFIER) else None)
+    for name, (only, change) in {"other": ("subscribe-numbered", misnumbered), "more": ("subscribe-overlap", one_more),
+                                 "resumed": ("subscribe-numbered", resumed(misnumbered))}.items():
+        yield Plant(f"P01-{name}", "P01", only, change)
     unnumbered: Change = on(Type.PUBLISH, lambda got, _: republish(got, without=Prop.SUBSCRIPTION_IDENTIFIER))
     for name, only in {"some": "subscribe-numbered", "overlap": "subscribe-overlap"}.items():
         yield Plant(f"P02-{name}", "P02", only, unnumbered)

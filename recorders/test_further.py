@@ -231,7 +231,7 @@ class Names(Case):
 class WithTheJudge(WithStandIn):
     def test_the_suite(self) -> None:
         """Each broken log has its fault, each kept one none; and without `--all` all of them pass."""
-        for code in "B05 B06 B07 B08 B09 P02 R01 R02 F01 F02 F03 F04 F05 F06 V03 V04 V06 C24 D01 D02 D03 D05 A01 A02 A03".split():
+        for code in "B05 B06 B07 B08 B09 P01 P02 R01 R02 F01 F02 F03 F04 F05 F06 V03 V04 V06 C24 D01 D02 D03 D05 A01 A02 A03".split():
             broken, kept = (TOP / f"examples/suite/{code}-{which}.log" for which in ("broken", "kept"))
             status, printed, _ = self.judged(broken, "--all", program=judge_program())
             self.assertTrue(any(line.startswith(f"  {code} ") for line in printed.splitlines()), printed)

@@ -226,6 +226,23 @@ class Readings(unittest.TestCase):
         resent = [*opened(), asked(share, 1), codes_[1], (SENT, publish("t", b"", 1, 9, dup=True))]
         self.assertFalse({place.code for place in read(log_of(*resent), is_of_all=True).places} & {"B08", "B09", "P02", "R01", "R02"})
 
+    def test_subscription_identifiers_that_are_sent(self) -> None:
+        """P01: whosever they are, where some subscription matches."""
+        numbered, ends = [(Prop.SUBSCRIPTION_IDENTIFIER, 7)], (RECV, unsubscribe(2, ["t"]))
+        asked, answers = (RECV, subscribe(1, [("t", 1)])), {one: (SENT, codes(Type.SUBACK, 1, bytes((one,)))) for one in (1, 0x87)}
+        logs: list[tuple[list[Record], bool]] = [
+            ([], False), ([asked], True), ([asked, answers[1]], True), ([asked, answers[0x87]], False), ([asked, answers[1], ends], True),
+            ([(RECV, subscribe(1, [("u", 1)], numbered))], False), ([(RECV, subscribe(1, [("$share/g/+", 1)], numbered))], True),
+            ([asked, (CLOSE, b""), *opened()], False), ([asked, (CLOSE, b""), *opened(present=True)], True),
+        ]
+        for events, wanted in logs:
+            before = [*opened(), *events]
+            for sent, is_tested in ((publish("t", b"", properties=numbered), wanted), (publish("t", b""), False),
+                                    (publish("t", b"", 1, 9, dup=True, properties=numbered), False)):
+                found = read(log_of(*before, (SENT, sent)), is_of_all=True).places
+                at = [place.position for place in found if place.code == "P01"]
+                self.assertEqual(at, [len(before) + 1] if is_tested else [], events)
+
     def test_a_topic_by_its_alias(self) -> None:
         alias, share = [(Prop.TOPIC_ALIAS, 1)], (RECV, subscribe(1, [("$share/g/#", 0)]))
         sent = [(SENT, publish("t", b"", 0, properties=alias)), (SENT, publish("", b"", 0, properties=alias))]

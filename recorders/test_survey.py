@@ -111,7 +111,7 @@ class Findings(unittest.TestCase):
         self.assertEqual(asked.codes(BROKEN), ["V06"])
         self.assertEqual(set(asked.bound - unasked.bound), set(FURTHER[True]))
         self.assertEqual([code for code in every_code([asked]) if code not in every_code([unasked])],
-                         "B05 B06 B07 B08 B09 P02 R01 R02 F01 F02 F03 F04 F05 F06 V03 V04 V06 C24 D01 D02 D03 D05 A01 A02 A03".split())
+                         "B05 B06 B07 B08 B09 P01 P02 R01 R02 F01 F02 F03 F04 F05 F06 V03 V04 V06 C24 D01 D02 D03 D05 A01 A02 A03".split())
 
     def test_a_table_that_is_none(self) -> None:
         self.assertIsNone(read_run(SESSIONS))

@@ -75,7 +75,7 @@ int main(void) {
     EXPECT(ROOM, mqjudge_code(0, NULL, 0, &size));
     EXPECT(ROOM, mqjudge_code(0, text, 3, &size));
     EXPECT(OK, mqjudge_code(0, text, 4, &size));
-    EXPECT(ABSENT, mqjudge_code(101, text, 4, &size));
+    EXPECT(ABSENT, mqjudge_code(102, text, 4, &size));
     EXPECT(VALUE, mqjudge_citation(0, 2, text, sizeof text, &size));
 
     /* garbage, and nothing but its refusal from then on */

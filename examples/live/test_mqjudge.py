@@ -336,7 +336,7 @@ class Misuse(unittest.TestCase):
             self.assertEqual(self.answers("begin", judge, 0, 2), "refused")
             self.assertEqual(self.answers("new", judge, 0), "held")
             with self.assertRaises(Trouble):
-                judge.text("code", 101)
+                judge.text("code", 102)
             with self.assertRaises(Trouble):
                 judge.text("citation", 0, 2)
 

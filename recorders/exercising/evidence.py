@@ -29,7 +29,7 @@ BOTH = frozenset(
 BINDING = {True: SERVER_ONLY | BOTH, False: CLIENT_ONLY | BOTH}  # by whether the tested end is a server
 FURTHER_OF_BOTH = frozenset(("V06", "A02", "A03"))
 FURTHER = {  # what binds too if the further statements are asked for
-    True: FURTHER_OF_BOTH | {"B05", "B06", "B07", "B08", "B09", "P02", "R01", "R02", "F05", "F06", "C24", "D01", "D02", "D03", "D05"},
+    True: FURTHER_OF_BOTH | frozenset("B05 B06 B07 B08 B09 P01 P02 R01 R02 F05 F06 C24 D01 D02 D03 D05".split()),
     False: FURTHER_OF_BOTH | {"F01", "F02", "F03", "F04", "V03", "V04", "A01"},
 }
 FOREIGN = {True: CLIENT_ONLY & frozenset("W15 W16 W17 W18 W19".split()), False: frozenset(("W20",))}  # out of reach

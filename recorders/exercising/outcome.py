@@ -45,6 +45,7 @@ WHY_NOT = {  # what a broker didn't do, where a statement isn't tested
     "F01": "it published nothing where Retain Available is 0",
     "F05": "it announced no Maximum QoS to who has a Will, and refused none for it",
     "F06": "it announced no Retain Available 0 to who has a Will, and refused none for it",
+    "P01": "it sent nothing with a Subscription Identifier",
     "P02": "it sent nothing for subscriptions that all have a Subscription Identifier",
     "R01": "it sent nothing for subscriptions that all have Retain Handling 2 and Retain As Published 0",
     "R02": "it sent nothing for which only a shared subscription asks for retained messages",

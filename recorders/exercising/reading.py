@@ -178,8 +178,8 @@ class Reading:
             self._on_subscriptions(event)
 
     def _on_subscriptions(self, event: Event) -> None:
-        """B06 and B07: what a server says of the filters that are unsubscribed. B08, B09, P02, R01 and R02: what it sends by those that
-        were subscribed."""
+        """B06 and B07: what a server says of the filters that are unsubscribed. B08, B09, P01, P02, R01 and R02: what it sends by those
+        that were subscribed."""
         here = self.here
         here.held.append(event)
         if here.connack is None and event.kind != CLOSE:

@@ -1,4 +1,4 @@
-"""What a client has subscribed to in a session, so far as a server's answers say it: what B06 to B09, P02, R01 and R02 look at."""
+"""What a client has subscribed to in a session, so far as a server's answers say it: what B06 to B09, P01, P02, R01 and R02 look at."""
 from __future__ import annotations
 
 from collections.abc import Iterable
@@ -155,7 +155,7 @@ class Subscribed:
     # ---- what is delivered
 
     def _deliver(self, packet: Packet) -> dict[str, set[str]]:
-        """B08, B09, P02, R01 and R02: a message is sent for the first time."""
+        """B08, B09, P01, P02, R01 and R02: a message is sent for the first time."""
         alias = packet.number(Prop.TOPIC_ALIAS, 0)
         topic = packet.topic or self.aliases.get(alias)
         if packet.topic and alias:
@@ -167,6 +167,8 @@ class Subscribed:
         if any(one.is_shared for one in self.asked):
             tested["B08"] = filter_tags(one.name for one in self.asked if not one.is_refused)
             tested |= {"B09": {f"granted-{max((one.most for one in matching), default=0)}"}} if packet.qos else {}
+        if matching and packet.has(Prop.SUBSCRIPTION_IDENTIFIER):
+            tested["P01"] = set()
         if matching and all(one.has_number for one in matching) and self.takes_numbers is not False:
             tested["P02"] = set()
         if matching and not any(one.options & AS_PUBLISHED or (one.wants_retained and not one.is_shared) for one in matching):

@@ -54,7 +54,7 @@ WORDS = (  # of statements: what the event is, with its numbers; and what is sai
     ("B05", "the SUBSCRIBE, which asks for less", ""),
     ("B06", "the UNSUBSCRIBE, for a filter that was subscribed", ""),
     ("B07", "the UNSUBSCRIBE, for a filter that was never subscribed", ""),
-    ("B09 P02 R01 R02", "the SUBSCRIBE that matches", ""),
+    ("B09 P01 P02 R01 R02", "the SUBSCRIBE that matches", ""),
     ("F01", "the CONNACK, with Retain Available 0", ""),
     ("F02", "the CONNACK, with Wildcard Subscription Available 0", ""),
     ("F03", "the CONNACK, with Subscription Identifier Available 0", ""),
