@@ -99,20 +99,19 @@ eight bytes, the most significant first. Here it is in microseconds since the lo
 
 ## A report
 
-A line for each fault, and a last line: `pass <n> events`, or `fail <m> faults <n> events`. A fault is
-`fault <position> <code> <citation> decided <position> record <number> offset <n>`: the event that
-breaks the statement (here each record is one event), the statement, where MQTT 5.0 says it, the
-event that shows the fault, the record of the first, and for W01 to W21 the offset in the packet,
-else `-`. In JSON the same has these names, and `-` is `null`.
+A line for each fault, and a last line: `pass <n> events`, or `fail <m> faults <n> events`. A fault
+is `fault <position> <code> <citation> decided <position> record <number> offset <n>`: the event
+that breaks the statement (here each record is one event), the statement, where MQTT 5.0 says it,
+the event that shows the fault, the record of the first, and for W01 to W21 the offset in the
+packet, else `-`. In JSON the same has these names, and `-` is `null`.
 
-With what was tested, the last line comes after a line `tested <code> <citation> places <n>` for each
-statement on the tested end, in the order of reports: at so many events it was put to the test, kept
-or broken. W15 to W19 are about packets that only a client sends, and W20 about those of a server:
-for the other end they are listed only if they have a place. Then comes
+With what was tested, the last line comes after a line `tested <code> <citation> places <n>` for
+each statement on the tested end, in the order of reports: at so many events it was put to the test,
+kept or broken. W15 to W19 are about packets that only a client sends, and W20 about those of a
+server: for the other end they are listed only if they have a place. Then comes
 `covered <m> of <n> statements`: so many of the listed ones have a place. A line for each thing that
 wasn't judged follows, `unjudged <what> <why>`, with `event <position> record <number>` if it begins
-with one event; the command's page has
-[what they mean](../../docs/COMMANDS.md#what-wasnt-judged).
+with one event; the command's page has [what they mean](../../docs/COMMANDS.md#what-wasnt-judged).
 
 ## The logs
 
